@@ -1,0 +1,70 @@
+#!/usr/bin/env python3
+"""Writes the scripts of the benchmark, the same ones each time.
+
+    make_script.py FOLDER
+
+`long` has 760,000 slots of mostly 19 digits, `short` 4,000,000 slots of one or
+two digits in chunks. Each is one column and one cast.
+"""
+
+import os
+import sys
+
+MASK = (1 << 64) - 1
+MAX_SCRIPT = 16_777_216
+
+
+def numbers(state):
+    """A fixed row of numbers below 2^64 (splitmix64)."""
+    while True:
+        state = (state + 0x9E3779B97F4A7C15) & MASK
+        mixed = state
+        mixed = ((mixed ^ (mixed >> 30)) * 0xBF58476D1CE4E5B9) & MASK
+        mixed = ((mixed ^ (mixed >> 27)) * 0x94D049BB133111EB) & MASK
+        yield mixed ^ (mixed >> 31)
+
+
+def long_slots(count):
+    """Ticks of 19 digits, a quarter below zero, one slot in thirty-two null."""
+    draw = numbers(1)
+    for _ in range(count):
+        kind, number = next(draw), next(draw)
+        if kind % 32 == 0:
+            yield "null"
+        else:
+            tick = 10**18 + number % (8 * 10**18)
+            yield str(-tick if kind % 128 > 96 else tick)
+
+
+def short_slots(count):
+    """Ticks of one or two digits, one slot in thirty-two null, and the end of a
+    chunk after one slot in thirty-two."""
+    draw = numbers(2)
+    for _ in range(count):
+        kind = next(draw)
+        if kind % 32 == 0:
+            yield "null"
+        else:
+            yield str((kind >> 16) % 100)
+        if (kind >> 8) % 32 == 0:
+            yield "|"
+
+
+def write_script(path, dtype, slots, target):
+    text = f"col a {dtype} {' '.join(slots)}\nexpr $0 cast:{target}\n"
+    assert len(text) < MAX_SCRIPT, f"{path} has {len(text)} bytes"
+    with open(path, "w", encoding="ascii", newline="\n") as script:
+        script.write(text)
+
+
+def main():
+    folder = sys.argv[1]
+    os.makedirs(folder, exist_ok=True)
+    long_path = os.path.join(folder, "long")
+    short_path = os.path.join(folder, "short")
+    write_script(long_path, "datetime[ns]", long_slots(760_000), "datetime[ms]")
+    write_script(short_path, "datetime[ms]", short_slots(4_000_000), "datetime[us]")
+
+
+if __name__ == "__main__":
+    main()

@@ -1,0 +1,12 @@
+pub mod Arithmetic
+pub mod Formula
+pub mod Value
+pub mod Sortedness
+pub mod Column
+pub mod Broadcast
+pub mod UnitChange
+pub mod CastTable
+pub mod OperatorTable
+pub mod ScalarTable
+pub mod ColumnCalls
+pub mod Laws

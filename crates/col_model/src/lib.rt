@@ -1,0 +1,12 @@
+//! The definitions that contracts cite: arithmetic, formulas, tables, columns.
+#![tactic(auto)]
+
+mod laws;
+mod ticks;
+
+pub use col_types::TimeUnit;
+pub use laws::{floor_rounds_down, known_datetimes, known_durations, trunc_rounds_towards_zero};
+pub use ticks::{UnitChange, datetime_in_unit, duration_in_unit, unit_change};
+
+#[cfg(test)]
+mod tests;

@@ -1,0 +1,5 @@
+pub mod PositionLemmas
+pub mod LineLemmas
+pub mod WordLemmas
+pub mod KnownValues
+pub mod PlaceLemmas

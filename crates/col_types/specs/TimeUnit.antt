@@ -1,0 +1,24 @@
+-- The names of units, and how they stand to each other.
+use Rattle.std.specs.Prelude.{ℕ, List, codes, ◌/◌, nat_lt, if◌then◌else◌}
+use Rattle.col_types.specs.declared.time_unit.TimeUnit.{TimeUnit}
+use Rattle.col_types.specs.declared.time_unit.TimeUnit.TheVariants.{Nanoseconds, Microseconds, Milliseconds}
+
+-- The name in ASCII, as bytes.
+abbrev pub unit_name : TimeUnit → List ℕ
+unit_name Nanoseconds = codes "ns"
+unit_name Microseconds = codes "us"
+unit_name Milliseconds = codes "ms"
+
+-- How many nanoseconds a tick lasts. All that tells units apart stands here.
+abbrev pub nanos_per_tick : TimeUnit → ℕ
+nanos_per_tick Nanoseconds = 1
+nanos_per_tick Microseconds = 1000
+nanos_per_tick Milliseconds = 1000000
+
+-- How many ticks a day has.
+abbrev pub ticks_per_day : TimeUnit → ℕ
+ticks_per_day unit = 86400000000000 / nanos_per_tick unit
+
+-- The unit of the two whose tick lasts longer.
+abbrev pub coarser_unit : TimeUnit → TimeUnit → TimeUnit
+coarser_unit u v = if nat_lt (nanos_per_tick u) (nanos_per_tick v) then v else u

@@ -1,0 +1,27 @@
+//! Units, column types, zones, sort marks and refusals.
+#![tactic(auto)]
+
+mod cast_options;
+mod data_type;
+mod error;
+mod field;
+mod is_sorted;
+mod operator;
+mod small_str;
+#[cfg(test)]
+mod tests;
+mod time_unit;
+mod time_zone;
+
+pub use cast_options::{CastOptions, CastOptionsImpl};
+pub use data_type::{DataType, Kind};
+pub use error::{PolarsError, PolarsResult};
+pub use field::Field;
+pub use is_sorted::IsSorted;
+pub use operator::{BinOp, OpName, ScalarOp};
+pub use small_str::PlSmallStr;
+pub use time_unit::{ArrowTimeUnit, TimeUnit};
+pub use time_zone::TimeZone;
+
+/// The number of a row.
+pub type IdxSize = u32;
