@@ -3,3 +3,4 @@ pub mod LineLemmas
 pub mod WordLemmas
 pub mod KnownValues
 pub mod PlaceLemmas
+pub mod StandLemmas

@@ -1,8 +1,8 @@
 -- The tokens of a text, each with its place and the number of its line.
-use Rattle.std.specs.Prelude.{ℕ, ◌+◌, List, [], ◌∷◌, ◌++◌, length, if◌then◌else◌}
-use Rattle.std.specs.List.{slice_split}
+use Rattle.std.specs.Prelude.{◌≡◌, ℕ, ◌+◌, List, [], ◌∷◌, ◌++◌, length, take, drop, if◌then◌else◌}
+use Rattle.std.specs.List.{count_by, slice_split}
 use Rattle.std.specs.Str.Lines.{strip_carriage_return}
-use Rattle.col_token.specs.Lines.{lines_of}
+use Rattle.col_token.specs.Lines.{is_line_feed, lines_of}
 use Rattle.col_token.specs.Tokens.{is_blank, is_token}
 
 -- the most bytes of a text whose places and lines are told
@@ -19,7 +19,8 @@ pub record PlacedToken : Type 0 where
 abbrev pub placed_token : List ℕ → ℕ → ℕ → PlacedToken
 placed_token text start line = record { text = text; start = start; line = line }
 
--- the tokens among the pieces of a line, where the first piece has the place start, and each further one begins one byte behind the end of the one before it
+-- the tokens among the pieces of a line, where the first piece has the place start,
+-- and each further one begins one byte behind the end of the one before it
 abbrev pub placed_pieces : ℕ → ℕ → List (List ℕ) → List PlacedToken
 placed_pieces start line [] = []
 placed_pieces start line (piece ∷ pieces) =
@@ -31,7 +32,8 @@ placed_pieces start line (piece ∷ pieces) =
 abbrev pub placed_words : ℕ → ℕ → List ℕ → List PlacedToken
 placed_words start line bytes = placed_pieces start line (slice_split is_blank bytes)
 
--- the tokens of lines, where the first one has the place start and the number line, and each further one begins one byte behind the end of the one before it
+-- the tokens of lines, where the first one has the place start and this number,
+-- and each further one begins one byte behind the end of the one before it
 abbrev pub placed_lines : ℕ → ℕ → List (List ℕ) → List PlacedToken
 placed_lines start number [] = []
 placed_lines start number (line ∷ lines) =
@@ -40,3 +42,8 @@ placed_lines start number (line ∷ lines) =
 -- the tokens of a text, in order
 abbrev pub placed_tokens : List ℕ → List PlacedToken
 placed_tokens text = placed_lines 0 1 (lines_of text)
+
+-- the token's bytes stand in the text at its place, and the line feeds before them tell its line
+pub record StandsIn (text : List ℕ) (token : PlacedToken) : Type 0 where
+  pub bytes : take (length token.text) (drop token.start text) ≡ token.text
+  pub line : count_by is_line_feed (take token.start text) + 1 ≡ token.line

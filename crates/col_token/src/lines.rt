@@ -37,7 +37,7 @@ pub fn content(line: &[u8]) -> &[u8]
     }
 }
 
-/// The number of lines of a text.
+/// The number of lines of a text of at most 16_777_216 bytes.
 pub fn line_count(text: &[u8]) -> u32
     requires { length text.now ≤ longest_text }
     ensures count { result ≡ length (lines_of text.now) }

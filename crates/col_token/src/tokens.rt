@@ -1,9 +1,10 @@
 //! The tokens of a text, each with its place and its line.
 
-ghost use Rattle.std.specs.Prelude.{◌≡◌, ◌≤◌, ◌+◌, ◌∷◌, ◌++◌, [], List, length, IfSome, IfNone};
+ghost use Rattle.std.specs.Prelude.{◌≡◌, ◌≤◌, ◌+◌, ◌∷◌, ◌++◌, [], List, length, IfSome, IfNone, All};
 ghost use Rattle.col_token.specs.Lines.{lines_of};
 ghost use Rattle.col_token.specs.Places.{
   PlacedToken,
+  StandsIn,
   longest_text,
   placed_lines,
   placed_token,
@@ -47,10 +48,11 @@ impl<'a> Model for Tokens<'a> {
 }
 
 impl<'a> Tokens<'a> {
-    /// A reader before the first token of a text.
+    /// A reader before the first token of a text of at most 16_777_216 bytes.
     pub fn new(text: &'a [u8]) -> Tokens<'a>
         requires { length text.now ≤ longest_text }
         ensures tokens { result ≡ placed_tokens text.now }
+        ensures places { All (StandsIn text.now) result }
     {
         Tokens {
             words: &[],
@@ -61,7 +63,7 @@ impl<'a> Tokens<'a> {
         }
     }
 
-    /// The next token, or `None` behind the last one.
+    /// The next token, in the order of the text, or `None` behind the last one.
     pub fn next(&mut self) -> Option<Token<'a>>
         ensures first { IfSome result (λ t. self.old ≡ placed_token t.text.now t.start t.line ∷ self.new) }
         ensures none { IfNone result (self.old ≡ []) }

@@ -38,7 +38,8 @@ fn cut_word(line: &[u8]) -> (&[u8], &[u8])
     }
 }
 
-/// The first token of a line's content, and what follows it, or `None` where only blanks are left.
+/// The first token of a line without its carriage return, and what follows it, or `None` where only
+/// blanks are left.
 pub fn first_token(line: &[u8]) -> Option<(&[u8], &[u8])>
     ensures none { IfNone result (words_in line.now ≡ []) }
     ensures first { IfSome result (λ cut. words_in line.now ≡ cut.0.now ∷ words_in cut.1.now) }
