@@ -1,7 +1,6 @@
 -- Arithmetic on integers without bound, and what a word of fixed width keeps of it.
-use Rattle.std.specs.Prelude.{zero, suc, ◌≡◌, ◌^◌, ◌-◌, ◌/◌, ◌-ℤ◌, ◌*ℤ◌, ℕ, ℤ, pos, negsuc, neg_ℤ, Bool, ◌&&◌, Option, Some, None, int_div, int_le, nat_lt, unwrap_or, if◌then◌else◌}
-use Rattle.std.specs.Option.{option_and_then}
-use Rattle.std.specs.Int.{Width, w8, w16, w32, w64, w128}
+use Rattle.std.specs.Prelude.{zero, suc, ◌^◌, ◌-◌, ◌/◌, ◌-ℤ◌, ◌*ℤ◌, ℕ, ℤ, pos, negsuc, neg_ℤ, Bool, ◌&&◌, Option, Some, None, int_div, int_le, nat_lt, unwrap_or, if◌then◌else◌}
+use Rattle.std.specs.Int.{Width}
 use Rattle.num_traits.specs.Laws.{bit_len, wrap_signed, wrap_unsigned}
 
 -- ---- intervals and words

@@ -1,16 +1,16 @@
 -- What the calls of a column answer, want of memory aside.
-use Rattle.std.specs.Prelude.{ℕ, ◌+◌, ◌^◌, ℤ, Bool, true, false, ◌&&◌, not, List, [], ◌∷◌, length, map, take, nat_lt, Option, Some, None, is_some, is_none, slice_index_or, Result, Ok, Err, if◌then◌else◌}
+use Rattle.std.specs.Prelude.{ℕ, ◌+◌, ◌^◌, ℤ, Bool, ◌&&◌, not, List, [], ◌∷◌, length, map, take, nat_lt, Option, Some, None, is_some, is_none, slice_index_or, Result, Ok, Err, if◌then◌else◌}
 use Rattle.std.specs.List.{list_any, position_from}
 use Rattle.col_types.specs.DataType.{kind_of}
 use Rattle.col_types.specs.declared.data_type.DataType.{DataType}
 use Rattle.col_types.specs.declared.cast_options.CastOptions.{CastOptions}
-use Rattle.col_types.specs.declared.cast_options.CastOptions.TheVariants.{Strict, NonStrict, Overflowing}
+use Rattle.col_types.specs.declared.cast_options.CastOptions.TheVariants.{Strict}
 use Rattle.col_types.specs.declared.is_sorted.IsSorted.TheVariants.{Not}
 use Rattle.col_types.specs.declared.error.PolarsError.{PolarsError}
 use Rattle.col_types.specs.declared.error.PolarsError.TheVariants as errors
 use Rattle.col_model.specs.Value.{Value, integer_slot, on_slot}
 use Rattle.col_model.specs.Column.{Column, is_slot_of}
-use Rattle.col_model.specs.Formula.{Formula, value_of}
+use Rattle.col_model.specs.Formula.{value_of}
 use Rattle.col_model.specs.CastTable.{CastRule, cast_rule, resolved_target}
 
 -- the value, or the refusal where there is one

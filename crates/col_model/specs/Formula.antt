@@ -1,5 +1,5 @@
 -- The formulas of the tables as data, and what each gives: its value, its exact value, its interval.
-use Rattle.std.specs.Prelude.{ℕ, ◌/◌, zero, suc, ℤ, pos, negsuc, ◌+ℤ◌, ◌-ℤ◌, ◌*ℤ◌, Bool, ◌&&◌, not, Option, Some, None, if◌then◌else◌, int_lt}
+use Rattle.std.specs.Prelude.{ℕ, zero, suc, ℤ, pos, negsuc, ◌+ℤ◌, ◌-ℤ◌, ◌*ℤ◌, ◌&&◌, Option, Some, None, if◌then◌else◌, int_lt}
 use Rattle.std.specs.Option.{option_and_then, option_map}
 use Rattle.std.specs.Int.{int_min, int_max}
 use Rattle.col_model.specs.Arithmetic.{Interval, is_within, WordType, word_values, fitting_value, wrapped_value, floor_by, trunc_by, floor_div, trunc_div, floor_mod, unless_zero}

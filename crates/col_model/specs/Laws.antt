@@ -1,7 +1,7 @@
 -- Laws above the definitions: what they mean in other words, and values that are known by hand.
-use Rattle.std.specs.Prelude.{◌≡◌, ◌<◌, ◌*ℤ◌, ◌+ℤ◌, ◌≤ℤ◌, ◌<ℤ◌, ℕ, ℤ, pos, neg_ℤ, negsuc, suc, Option, Some, None}
+use Rattle.std.specs.Prelude.{◌≡◌, ◌*ℤ◌, ◌+ℤ◌, ◌≤ℤ◌, ◌<ℤ◌, ℕ, ℤ, pos, neg_ℤ, negsuc, Option, Some, None}
 use Rattle.col_types.specs.declared.time_unit.TimeUnit.TheVariants.{Nanoseconds, Microseconds, Milliseconds}
-use Rattle.col_model.specs.Arithmetic.{floor_by, trunc_by, Interval, fitting_value}
+use Rattle.col_model.specs.Arithmetic.{floor_by, trunc_by}
 use Rattle.col_model.specs.Formula.{Formula, value_of}
 use Rattle.col_model.specs.UnitChange.{datetime_in_unit, duration_in_unit}
 

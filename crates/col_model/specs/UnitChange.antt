@@ -1,9 +1,9 @@
 -- Ticks of one unit as ticks of another.
-use Rattle.std.specs.Prelude.{ℕ, ◌/◌, pos, nat_lt, if◌then◌else◌}
+use Rattle.std.specs.Prelude.{ℕ, ◌<◌, ◌/◌, pos, nat_lt, if◌then◌else◌}
 use Rattle.std.specs.Int.{w64}
 use Rattle.col_types.specs.TimeUnit.{nanos_per_tick}
 use Rattle.col_types.specs.declared.time_unit.TimeUnit.{TimeUnit}
-use Rattle.col_model.specs.Arithmetic.{Interval, Signed, word_values}
+use Rattle.col_model.specs.Arithmetic.{Signed, word_values}
 use Rattle.col_model.specs.Formula.{Formula, X, Constant, Product, FloorBy, TruncBy, Fit}
 use Rattle.col_model.specs.declared.ticks.UnitChange.{UnitChange}
 use Rattle.col_model.specs.declared.ticks.UnitChange.TheVariants.{Finer, Same, Coarser}
@@ -14,6 +14,12 @@ unit_change from to =
     if nat_lt (nanos_per_tick to) (nanos_per_tick from) then Finer (nanos_per_tick from / nanos_per_tick to)
     else if nat_lt (nanos_per_tick from) (nanos_per_tick to) then Coarser (nanos_per_tick to / nanos_per_tick from)
     else Same
+
+-- a coarser unit's factor is not 0
+abbrev pub IsProper : UnitChange → Type 0
+IsProper (Finer factor) = Unit {0}
+IsProper Same = Unit {0}
+IsProper (Coarser factor) = 0 < factor
 
 -- a tick in a finer unit, where 64 bits hold it
 abbrev pub in_finer_unit : ℕ → Formula

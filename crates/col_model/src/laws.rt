@@ -1,6 +1,7 @@
 // Laws above the definitions. Each function does nothing: its contract is the law.
 ghost use Rattle.std.specs.Prelude.{ℕ, ℤ, ◌<◌};
-ghost use Rattle.col_model.specs.Laws.{RoundsDown, RoundsTowardsZero, KnownDatetimes, KnownDurations};
+ghost use Rattle.col_model.specs.Laws.{RoundsDown, RoundsTowardsZero};
+ghost use Rattle.col_model.specs.Laws.{KnownDatetimes, KnownDurations};
 
 /// The quotient by a positive number, rounded down, is the greatest whose multiple isn't above.
 pub fn floor_rounds_down()

@@ -6,7 +6,9 @@ mod ticks;
 
 pub use col_types::TimeUnit;
 pub use laws::{floor_rounds_down, known_datetimes, known_durations, trunc_rounds_towards_zero};
-pub use ticks::{UnitChange, datetime_in_unit, duration_in_unit, unit_change};
+pub use ticks::{
+    UnitChange, datetime_by, datetime_in_unit, duration_by, duration_in_unit, unit_change,
+};
 
 #[cfg(test)]
 mod tests;

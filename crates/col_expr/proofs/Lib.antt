@@ -1,0 +1,5 @@
+pub mod PostfixLemmas
+pub mod RefusalLemmas
+pub mod Slots
+pub mod NodeLemmas
+pub mod InputsLemmas

@@ -1,0 +1,27 @@
+-- Which trees an expression can hold so far, and why one is not built.
+use Rattle.std.specs.Prelude.{◌≡◌, ℕ, ◌<◌, ◌≤◌, Bool, true, false, ◌&&◌}
+use Rattle.col_model.specs.Column.{is_column_type}
+use Rattle.col_expr.specs.declared.error.ExprCause.{ExprCause}
+use Rattle.col_expr.specs.declared.error.ExprCause.TheVariants as causes
+use Rattle.col_expr.specs.Tree.{Tree, Input, Cast, node_count, depth_of, max_nodes, max_depth}
+
+-- inputs, and casts to types whose columns exist
+abbrev pub is_built : Tree → Bool
+is_built (Input index) = true
+is_built (Cast operand dtype options) = is_column_type dtype && is_built operand
+is_built _ = false
+
+-- the two counts are the tree's and within the limits, and the tree is one that can be held
+pub record IsExpr (nodes depth : ℕ) (tree : Tree) : Type 0 where
+  pub counted : nodes ≡ node_count tree
+  pub measured : depth ≡ depth_of tree
+  pub small : nodes ≤ max_nodes
+  pub shallow : depth ≤ max_depth
+  pub built : is_built tree ≡ true
+
+-- the cause for which an expression of these counts is refused: its nodes come before its depth
+abbrev pub IsRefusedFor : ℕ → ℕ → ExprCause → Type 0
+IsRefusedFor nodes depth (causes.ExprTooLarge n) = (n ≡ nodes) × (max_nodes < nodes)
+IsRefusedFor nodes depth (causes.ExprTooDeep n) =
+    (n ≡ depth) × (nodes ≤ max_nodes) × (max_depth < depth)
+IsRefusedFor nodes depth causes.NoMemory = (nodes ≤ max_nodes) × (depth ≤ max_depth)

@@ -1,0 +1,40 @@
+-- What the evaluation of a part of an expression answers.
+use Rattle.std.specs.Prelude.{◌≡◌, ℕ, List, length, Option, Some, None, Result, Ok, Err}
+use Rattle.col_types.specs.declared.error.PolarsError.{PolarsError}
+use Rattle.col_model.specs.Column.{Column}
+use Rattle.col_model.specs.Broadcast.{column_slots}
+use Rattle.col_expr.specs.declared.error.EvalError.{EvalError}
+use Rattle.col_expr.specs.Tree.{Tree}
+use Rattle.col_expr.specs.Meaning.{name_of, dtype_of, rows_of, slot_at, flag_of}
+use Rattle.col_expr.specs.Refusal.{at_node, first_refusal, Unless}
+
+-- the column has the name, the type, the rows, the slots and the flag of the tree
+pub record IsColumnOf (inputs : List Column) (tree : Tree) (column : Column) : Type 0 where
+  pub named : name_of inputs tree ≡ Some column.name
+  pub typed : dtype_of inputs tree ≡ Some column.dtype
+  pub long : rows_of inputs tree ≡ Some (length column.slots)
+  pub filled : column.slots ≡ column_slots (slot_at inputs tree) (length column.slots)
+  pub flagged : column.flag ≡ flag_of inputs tree
+
+-- a part with no refused node, and its column
+pub record IsFineBy (inputs : List Column) (refused : Option EvalError) (tree : Tree)
+    (column : Column) : Type 0 where
+  pub fine : refused ≡ None
+  pub column_is : IsColumnOf inputs tree column
+
+-- the answer for a part with this first refusal
+abbrev pub IsFoundBy : List Column → Option EvalError → Tree → Result Column EvalError → Type 0
+IsFoundBy inputs refused tree (Ok column) = IsFineBy inputs refused tree column
+IsFoundBy inputs refused tree (Err error) = Unless error (refused ≡ Some error)
+
+-- the same, where the nodes are numbered from `first` on
+abbrev pub IsFine : List Column → ℕ → Tree → Column → Type 0
+IsFine inputs first tree column = IsFineBy inputs (first_refusal inputs first tree) tree column
+
+abbrev pub IsFound : List Column → ℕ → Tree → Result Column EvalError → Type 0
+IsFound inputs first tree answer = IsFoundBy inputs (first_refusal inputs first tree) tree answer
+
+-- a column's answer as that of a node
+abbrev pub numbered : {T : Type 0} → ℕ → Result T PolarsError → Result T EvalError
+numbered node (Ok x) = Ok x
+numbered node (Err e) = Err (at_node node e)

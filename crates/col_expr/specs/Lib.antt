@@ -1,0 +1,9 @@
+pub mod Tree
+pub mod Postfix
+pub mod TreeCode
+pub mod Meaning
+pub mod Refusal
+pub mod Built
+pub mod Node
+pub mod Found
+pub mod Laws

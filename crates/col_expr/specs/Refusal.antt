@@ -1,0 +1,91 @@
+-- Which node of an expression is refused first, and why.
+use Rattle.std.specs.Prelude.{◌≡◌, ℕ, ◌+◌, nat_lt, List, length, Option, Some, None, Result, Ok, Err, if◌then◌else◌}
+use Rattle.std.specs.Option.{option_map}
+use Rattle.col_types.specs.declared.data_type.DataType.{DataType}
+use Rattle.col_types.specs.declared.cast_options.CastOptions.{CastOptions}
+use Rattle.col_types.specs.declared.error.PolarsError.{PolarsError}
+use Rattle.col_types.specs.declared.error.PolarsError.TheVariants as errors
+use Rattle.col_model.specs.Column.{Column}
+use Rattle.col_model.specs.Value.{Value}
+use Rattle.col_model.specs.Broadcast.{column_slots}
+use Rattle.col_model.specs.OperatorTable.{OperatorRule}
+use Rattle.col_model.specs.ColumnCalls.{cast_refusal, unless_refused}
+use Rattle.col_expr.specs.declared.error.EvalError.{EvalError}
+use Rattle.col_expr.specs.declared.error.EvalError.TheVariants as refusals
+use Rattle.col_expr.specs.Tree.{Tree, Input, Cast, Binary, ScalarRight, ScalarLeft, InUnit, Shift, node_count}
+use Rattle.col_expr.specs.Meaning.{dtype_of, rows_of, row_count, slot_at, cast_rule_for, operator_rule_for, scalar_right_rule_for, scalar_left_rule_for, unit_change_rule_for, broadcast_length_for, result_column}
+
+-- a column's refusal as that of a node; a cast, the one call of a column that is built, gives these alone
+abbrev pub at_node : ℕ → PolarsError → EvalError
+at_node node (errors.CastPair from to) = refusals.Unsupported node
+at_node node (errors.Strict row) = refusals.Strict node row
+at_node node _ = refusals.NoMemory
+
+-- the refusal of a cast of an operand of this type and these slots
+abbrev pub cast_refusal_at : ℕ → Option DataType → DataType → CastOptions → List (Option Value) → Option EvalError
+cast_refusal_at node None target options slots = None
+cast_refusal_at node (Some from) target options slots =
+    option_map (at_node node) (cast_refusal from target options (cast_rule_for (Some from) target options) slots)
+
+-- a node without a row in its table is refused
+abbrev pub unsupported_at : ℕ → Option OperatorRule → Option EvalError
+unsupported_at node None = Some (refusals.Unsupported node)
+unsupported_at node (Some rule) = None
+
+-- two operands are refused for their lengths, and then for their types
+abbrev pub binary_refusal_at : ℕ → ℕ → ℕ → Option ℕ → Option OperatorRule → Option EvalError
+binary_refusal_at node left right None rule = Some (refusals.Lengths node left right)
+binary_refusal_at node left right (Some rows) rule = unsupported_at node rule
+
+-- why a node of this number is refused, where its operands are not
+abbrev pub refusal_at : List Column → ℕ → Tree → Option EvalError
+refusal_at inputs node (Input index) = if nat_lt index (length inputs) then None else Some (refusals.NoColumn node index (length inputs))
+refusal_at inputs node (Cast operand target options) =
+    cast_refusal_at node (dtype_of inputs operand) target options (column_slots (slot_at inputs operand) (row_count inputs operand))
+refusal_at inputs node (Binary op left right) =
+    binary_refusal_at node (row_count inputs left) (row_count inputs right)
+    (broadcast_length_for (rows_of inputs left) (rows_of inputs right))
+    (operator_rule_for op (dtype_of inputs left) (dtype_of inputs right))
+refusal_at inputs node (ScalarRight operand op value) = unsupported_at node (scalar_right_rule_for (dtype_of inputs operand) op value)
+refusal_at inputs node (ScalarLeft value op operand) = unsupported_at node (scalar_left_rule_for value op (dtype_of inputs operand))
+refusal_at inputs node (InUnit operand unit) = unsupported_at node (unit_change_rule_for (dtype_of inputs operand) unit)
+refusal_at inputs node (Shift operand periods) = None
+
+-- the first, or else the second
+abbrev pub or_else : {T : Type 0} → Option T → Option T → Option T
+or_else None second = second
+or_else (Some x) second = Some x
+
+-- the refusal of the least refused node, where the nodes are numbered in postfix order from `first` on
+abbrev pub first_refusal : List Column → ℕ → Tree → Option EvalError
+first_refusal inputs first (Input index) = refusal_at inputs first (Input index)
+first_refusal inputs first (Cast operand dtype options) =
+    or_else (first_refusal inputs first operand) (refusal_at inputs (first + node_count operand) (Cast operand dtype options))
+first_refusal inputs first (Binary op left right) =
+    or_else (first_refusal inputs first left)
+    (or_else (first_refusal inputs (first + node_count left) right)
+    (refusal_at inputs (first + node_count left + node_count right) (Binary op left right)))
+first_refusal inputs first (ScalarRight operand op value) =
+    or_else (first_refusal inputs first operand) (refusal_at inputs (first + node_count operand) (ScalarRight operand op value))
+first_refusal inputs first (ScalarLeft value op operand) =
+    or_else (first_refusal inputs first operand) (refusal_at inputs (first + node_count operand) (ScalarLeft value op operand))
+first_refusal inputs first (InUnit operand unit) =
+    or_else (first_refusal inputs first operand) (refusal_at inputs (first + node_count operand) (InUnit operand unit))
+first_refusal inputs first (Shift operand periods) =
+    or_else (first_refusal inputs first operand) (refusal_at inputs (first + node_count operand) (Shift operand periods))
+
+-- the column of an expression, or its first refused node
+abbrev pub outcome : List Column → Tree → Result Column EvalError
+outcome inputs tree = unless_refused (first_refusal inputs 0 tree) (result_column inputs tree)
+
+-- ---- want of memory aside
+
+-- a fact that is owed under each refusal but want of memory
+abbrev pub Unless : EvalError → Type 0 → Type 0
+Unless refusals.NoMemory fact = Unit {0}
+Unless error fact = fact
+
+-- the answer is the expected one, unless memory is wanting
+abbrev pub Gives : {T : Type 0} → Result T EvalError → Result T EvalError → Type 0
+Gives (Ok x) expected = expected ≡ Ok x
+Gives (Err error) expected = Unless error (expected ≡ Err error)

@@ -1,0 +1,131 @@
+// Evaluating an expression.
+ghost use Rattle.std.specs.Prelude.{◌≡◌, ◌+◌, ◌≤◌, ◌<◌, true, OnOk, IfOk, length, Result};
+ghost use Rattle.col_types.specs.declared.error.PolarsError.{PolarsError};
+ghost use Rattle.col_types.specs.PolarsError as column_calls;
+ghost use Rattle.col_model.specs.Column.{Column, is_column_type};
+ghost use Rattle.col_model.specs.ColumnCalls.{cast_of};
+ghost use Rattle.col_expr.specs.Tree.{node_count, Input, max_nodes};
+ghost use Rattle.col_expr.specs.Built.{is_built};
+ghost use Rattle.col_expr.specs.Node.{node_tree};
+ghost use Rattle.col_expr.specs.Meaning.{step_count};
+ghost use Rattle.col_expr.specs.Refusal.{Gives, outcome};
+ghost use Rattle.col_expr.specs.Found.{IsFound, numbered};
+
+use crate::error::EvalError;
+use crate::expr::Expr;
+use crate::inputs::Inputs;
+use crate::node::Node;
+use crate::steps::Steps;
+use col_series::{CastOptions, DataType, PolarsError, PolarsResult, Series};
+use std::alloc::Global;
+use std::sync::ledger::Ledger;
+
+/// The column of an expression, or its first refused node in postfix order. A step is one slot of
+/// one node's answer; inputs take none.
+pub fn evaluate<L: Ledger>(
+    alloc: Global,
+    expr: &Expr,
+    inputs: &Inputs,
+    steps: &mut Steps<L>,
+) -> Result<Series, EvalError>
+    ensures outcome { Gives result (outcome inputs.now expr.now) }
+    ensures steps { OnOk result (steps.new ≡ steps.old + step_count inputs.now expr.now) }
+{
+    let mut next = 0;
+    evaluate_node(alloc, expr.root(), inputs, &mut next, steps)
+}
+
+// The column of a node, where the nodes below it are numbered from `next` on.
+fn evaluate_node<L: Ledger>(
+    alloc: Global,
+    node: &Node,
+    inputs: &Inputs,
+    next: &mut u32,
+    steps: &mut Steps<L>,
+) -> Result<Series, EvalError>
+    requires small { next.old + node_count (node_tree node.now) ≤ max_nodes }
+    requires built { is_built (node_tree node.now) ≡ true }
+    ensures next { OnOk result (next.new ≡ next.old + node_count (node_tree node.now)) }
+    ensures found { IsFound inputs.now next.old (node_tree node.now) result }
+    ensures steps { OnOk result
+        (steps.new ≡ steps.old + step_count inputs.now (node_tree node.now)) }
+{
+    match node {
+        Node::Input(index) => {
+            let number = take_number(next);
+            input_column(alloc, inputs, *index, number)
+        }
+        Node::Cast(operand, dtype, options) => {
+            let column = evaluate_node(alloc, operand, inputs, next, steps)?;
+            let number = take_number(next);
+            counted(cast_column(alloc, &column, dtype, *options, number), steps)
+        }
+    }
+}
+
+// The number of the next node.
+fn take_number(next: &mut u32) -> u32
+    requires small { next.old < max_nodes }
+    ensures number { result ≡ next.old }
+    ensures next { next.new ≡ next.old + 1 }
+{
+    let number = *next;
+    *next += 1;
+    number
+}
+
+// Counts a step for each slot of a node's answer.
+fn counted<L: Ledger>(
+    answer: Result<Series, EvalError>,
+    steps: &mut Steps<L>,
+) -> Result<Series, EvalError>
+    ensures answer { result ≡ answer }
+    ensures steps { IfOk result (λ column. steps.new ≡ steps.old + length column.slots) }
+{
+    match answer {
+        Ok(column) => {
+            steps.tick(column.len() as u64);
+            Ok(column)
+        }
+        Err(error) => Err(error),
+    }
+}
+
+fn input_column(alloc: Global, inputs: &Inputs, index: u32, node: u32) -> Result<Series, EvalError>
+    ensures found { IsFound inputs.now node (Input index) result }
+{
+    match inputs.get(index) {
+        Some(column) => at_node(column.try_clone(alloc), node),
+        None => Err(EvalError::NoColumn {
+            node,
+            index,
+            count: inputs.len(),
+        }),
+    }
+}
+
+fn cast_column(
+    alloc: Global,
+    column: &Series,
+    dtype: &DataType,
+    options: CastOptions,
+    node: u32,
+) -> Result<Series, EvalError>
+    requires column_type { is_column_type dtype.now ≡ true }
+    ensures cast { Gives result (numbered node (cast_of column.now dtype.now options)) }
+{
+    at_node(column.cast_with_options(alloc, dtype, options), node)
+}
+
+// A column's answer as that of a node.
+fn at_node(answer: PolarsResult<Series>, node: u32) -> Result<Series, EvalError>
+    ensures answer { (expected : Result Column PolarsError) →
+        column_calls.Gives answer expected → Gives result (numbered node expected) }
+{
+    match answer {
+        Ok(column) => Ok(column),
+        Err(PolarsError::CastPair { .. }) => Err(EvalError::Unsupported { node }),
+        Err(PolarsError::Strict { row }) => Err(EvalError::Strict { node, row }),
+        Err(_) => Err(EvalError::NoMemory),
+    }
+}

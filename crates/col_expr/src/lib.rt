@@ -1,0 +1,20 @@
+//! Expressions over columns: building one, and evaluating it.
+#![tactic(auto)]
+
+mod error;
+mod evaluation;
+mod expr;
+mod inputs;
+mod laws;
+mod node;
+mod steps;
+#[cfg(test)]
+mod tests;
+
+pub use col_series::{CastOptions, DataType, Series, TimeUnit, TimeZone};
+pub use error::{EvalError, ExprCause, ExprRefused};
+pub use evaluation::evaluate;
+pub use expr::Expr;
+pub use inputs::Inputs;
+pub use laws::{one_tree_fits, refusals_in_postfix_order};
+pub use steps::Steps;

@@ -1,0 +1,4 @@
+pub mod WordLemmas
+pub mod Rounding
+pub mod WordQuotients
+pub mod Scales

@@ -1,0 +1,9 @@
+use Rattle.std.specs.Int.{w16}
+use Rattle.col_kernel.proofs.WordLemmas.{narrow_signed}
+use Rattle.col_kernel.proofs.words.I16Word.wrap_i128.Goals as goal
+
+pub returns : goal.returns
+returns c = record {
+  value = narrow_signed w16 c.args.value _ _ c.ranges.value
+      (record { sfits = c.cast_signed.type_inv }) c.cast_unsigned.ensures c.cast_signed.ensures;
+}

@@ -1,0 +1,9 @@
+use Rattle.std.specs.Int.{w64}
+use Rattle.col_kernel.proofs.WordLemmas.{narrow_signed}
+use Rattle.col_kernel.proofs.words.I64Word.wrap_i128.Goals as goal
+
+pub returns : goal.returns
+returns c = record {
+  value = narrow_signed w64 c.args.value _ _ c.ranges.value
+      (record { sfits = c.cast_signed.type_inv }) c.cast_unsigned.ensures c.cast_signed.ensures;
+}

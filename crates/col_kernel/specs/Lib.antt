@@ -1,0 +1,4 @@
+pub mod Congruence
+pub mod Slots
+pub mod Kernels
+pub mod WordLaws

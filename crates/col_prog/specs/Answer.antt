@@ -1,0 +1,66 @@
+-- What the program answers to its words and to the bytes of its script.
+use Rattle.std.specs.Prelude.{◌≡◌, ◌≤◌, ℕ, List, [], Option, Some, None, Result, Ok, Err, length, codes}
+use Rattle.std.specs.Option.{IsSomeAnd}
+use Rattle.col_model.specs.Column.{Column}
+use Rattle.col_expr.specs.declared.error.EvalError.{EvalError}
+use Rattle.col_expr.specs.Refusal.{outcome}
+use Rattle.col_text.specs.declared.script.Script.{Script}
+use Rattle.col_text.specs.Script.{script_of}
+use Rattle.col_text.specs.Answer.{column_text, refusal_text, bad_line_text}
+use Rattle.col_prog.specs.declared.words.Command.{Command}
+use Rattle.col_prog.specs.declared.words.Command.TheVariants.{Eval, Help, Version}
+use Rattle.col_prog.specs.declared.status.Status.{Status}
+use Rattle.col_prog.specs.declared.status.Status.TheVariants.{Done, Refused, BadScript, BadWords, ReadFault, WriteFault, TooLong, NoMemory}
+use Rattle.col_prog.specs.Words.{command_of}
+use Rattle.col_prog.specs.HelpText.{help_text, version_text}
+
+-- a text, and the status that tells it
+pub record Reply : Type 0 where
+  pub text : List ℕ
+  pub status : Status
+
+-- the text of the column, or of the first refused node
+abbrev pub reply_to_outcome : Result Column EvalError → Reply
+reply_to_outcome (Ok column) = record { text = column_text column; status = Done }
+reply_to_outcome (Err refusal) = record { text = refusal_text refusal; status = Refused }
+
+-- the answer to a script, or the text of its first bad line
+abbrev pub reply_to_script : Result Script ℕ → Reply
+reply_to_script (Ok script) = reply_to_outcome (outcome script.inputs script.expr)
+reply_to_script (Err line) = record { text = bad_line_text line; status = BadScript }
+
+-- the answer to a command and the bytes of its source; words that tell no command have no text
+abbrev pub reply_to : Option Command → List ℕ → Reply
+reply_to (Some Eval) bytes = reply_to_script (script_of bytes)
+reply_to (Some Help) bytes = record { text = help_text; status = Done }
+reply_to (Some Version) bytes = record { text = version_text; status = Done }
+reply_to None bytes = record { text = []; status = BadWords }
+
+-- the answer to the words and the bytes
+unfoldable pub answer_of : List (List ℕ) → List ℕ → Reply
+answer_of words bytes = reply_to (command_of words) bytes
+
+-- where the room is limited, the bytes are known, and the answer to them fits the room
+abbrev pub HoldsAnswer : List (List ℕ) → Option ℕ → Option (List ℕ) → Type 0
+HoldsAnswer words None bytes = Unit {0}
+HoldsAnswer words (Some room) bytes = IsSomeAnd bytes (λ script. length (answer_of words script).text ≤ room)
+
+-- a status that tells that the whole text was written
+abbrev pub IsAnswer : Status → Type 0
+IsAnswer Done = Unit {0}
+IsAnswer Refused = Unit {0}
+IsAnswer BadScript = Unit {0}
+IsAnswer _ = ⊥
+
+-- a status that tells that nothing was written
+abbrev pub IsUnwritten : Status → Type 0
+IsUnwritten BadWords = Unit {0}
+IsUnwritten ReadFault = Unit {0}
+IsUnwritten TooLong = Unit {0}
+IsUnwritten NoMemory = Unit {0}
+IsUnwritten _ = ⊥
+
+-- the expected status, unless memory is wanting
+abbrev pub IsStatus : Status → Status → Type 0
+IsStatus NoMemory expected = Unit {0}
+IsStatus status expected = status ≡ expected

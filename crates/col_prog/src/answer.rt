@@ -1,0 +1,122 @@
+// The answer to a command, before it is written.
+ghost use Rattle.std.specs.Prelude.{◌≡◌, ◌≤◌, ◌+◌, length, IfOk, OnOk, OnErr, IfSome, Some, Err};
+ghost use Rattle.std.specs.Io.KnownBytes.{IsAtEnd};
+ghost use Rattle.col_text.specs.Script.{script_of};
+ghost use Rattle.col_expr.specs.Refusal.{outcome};
+ghost use Rattle.col_prog.specs.Device.{Rose};
+ghost use Rattle.col_prog.specs.Reading.{Took, TookUpTo};
+ghost use Rattle.col_prog.specs.HelpText.{help_text, version_text};
+ghost use Rattle.col_prog.specs.Answer.{reply_to, reply_to_script, reply_to_outcome, IsAnswer};
+
+use crate::device::Source;
+use crate::reading::{MAX_SCRIPT, ReadError, read_all};
+use crate::status::Status;
+use crate::words::Command;
+use col_expr::{EvalError, Steps, evaluate};
+use col_text::{Script, answer_text, bad_line_text, fault_text, read_script};
+use std::alloc::{AllocError, Global};
+use std::sync::ledger::Ledger;
+
+const HELP: &str =
+    "tizlumed answers one expression over columns of moments and lengths of time.\n\nusage: tizlumed eval < SCRIPT\n       tizlumed --help\n       tizlumed --version\n\nA script has any number of lines `col NAME TYPE SLOT ..`, and then one line\n`expr TOKEN ..` in postfix order: `$N` is column N, `cast:TYPE` casts.\nA TYPE is datetime[UNIT] or duration[UNIT], a UNIT is ns, us or ms.\nA SLOT is `null` or an integer.\n";
+
+const VERSION: &str = "tizlumed 0.1.0\n";
+
+/// A whole text, and the status that tells it.
+#[derive(Drop)]
+pub(crate) struct Answer {
+    pub text: Vec<u8>,
+    pub status: Status,
+}
+
+/// The answer to a command. Only `eval` reads the source, and then to its end.
+pub(crate) fn answer_to<S: Source, L: Ledger>(
+    alloc: Global,
+    command: Command,
+    source: &mut S,
+    steps: &mut Steps<L>,
+) -> Result<Answer, ReadError>
+    ensures text { IfOk result (λ a. IfSome (S.left source.old) (λ bytes.
+        a.text.items ≡ (reply_to (Some command) bytes).text)) }
+    ensures status { IfOk result (λ a. IfSome (S.left source.old) (λ bytes.
+        a.status ≡ (reply_to (Some command) bytes).status)) }
+    ensures answer { IfOk result (λ a. IsAnswer a.status) }
+    ensures help { command ≡ Command.Help → IfOk result (λ a. a.text.items ≡ help_text) }
+    ensures help_read { command ≡ Command.Help → source.new ≡ source.old }
+    ensures version { command ≡ Command.Version → IfOk result (λ a. a.text.items ≡ version_text) }
+    ensures version_read { command ≡ Command.Version → source.new ≡ source.old }
+    ensures end { command ≡ Command.Eval → OnOk result (IsAtEnd (S.left source.new)) }
+    ensures within { command ≡ Command.Eval → OnOk result (IfSome (S.left source.old) (λ bytes.
+        length bytes ≤ MAX_SCRIPT)) }
+    ensures front { OnErr result (TookUpTo (S.left source.old) (S.left source.new) (MAX_SCRIPT + 1)) }
+    ensures too_long { result ≡ Err ReadError.TooLong →
+        Took (S.left source.old) (S.left source.new) (MAX_SCRIPT + 1) }
+    ensures not_too_long { result ≡ Err ReadError.Fault →
+        TookUpTo (S.left source.old) (S.left source.new) MAX_SCRIPT }
+    ensures fault { result ≡ Err ReadError.Fault → Rose (S.faults source.old) (S.faults source.new) }
+{
+    match command {
+        Command::Eval => {
+            let bytes = read_all(alloc, source)?;
+            Ok(answer_to_script(alloc, &bytes, steps)?)
+        }
+        Command::Help => Ok(told(alloc, HELP)?),
+        Command::Version => Ok(told(alloc, VERSION)?),
+    }
+}
+
+fn told(alloc: Global, text: &str) -> Result<Answer, AllocError>
+    ensures text { IfOk result (λ a. a.text.items ≡ text.now) }
+    ensures status { IfOk result (λ a. a.status ≡ Status.Done) }
+{
+    Ok(Answer {
+        text: Vec::from_slice(alloc, text.as_bytes())?,
+        status: Status::Done,
+    })
+}
+
+/// The answer to a script, or its first bad line.
+fn answer_to_script<L: Ledger>(
+    alloc: Global,
+    bytes: &[u8],
+    steps: &mut Steps<L>,
+) -> Result<Answer, AllocError>
+    requires short { length bytes.now ≤ MAX_SCRIPT }
+    ensures text { IfOk result (λ a. a.text.items ≡ (reply_to_script (script_of bytes.now)).text) }
+    ensures status { IfOk result (λ a. a.status ≡ (reply_to_script (script_of bytes.now)).status) }
+    ensures answer { IfOk result (λ a. IsAnswer a.status) }
+{
+    match read_script(alloc, bytes) {
+        Ok(script) => answer_to_expression(alloc, &script, steps),
+        Err(col_text::ReadError::BadLine { line }) => Ok(Answer {
+            text: bad_line_text(alloc, line)?,
+            status: Status::BadScript,
+        }),
+        Err(col_text::ReadError::NoMemory) => Err(AllocError),
+    }
+}
+
+/// The column of the script's expression, or its first refused node.
+fn answer_to_expression<L: Ledger>(
+    alloc: Global,
+    script: &Script,
+    steps: &mut Steps<L>,
+) -> Result<Answer, AllocError>
+    ensures text { IfOk result (λ a.
+        a.text.items ≡ (reply_to_outcome (outcome script.now.inputs script.now.expr)).text) }
+    ensures status { IfOk result (λ a.
+        a.status ≡ (reply_to_outcome (outcome script.now.inputs script.now.expr)).status) }
+    ensures answer { IfOk result (λ a. IsAnswer a.status) }
+{
+    match evaluate(alloc, &script.expr, &script.inputs, steps) {
+        Ok(column) => Ok(Answer {
+            text: answer_text(alloc, &column)?,
+            status: Status::Done,
+        }),
+        Err(EvalError::NoMemory) => Err(AllocError),
+        Err(fault) => Ok(Answer {
+            text: fault_text(alloc, &fault)?,
+            status: Status::Refused,
+        }),
+    }
+}

@@ -1,0 +1,109 @@
+// One run of the program: its words, its script, its answer.
+ghost use Rattle.std.specs.Prelude.{
+  ◌≡◌,
+  ◌≤◌,
+  ◌↔◌,
+  ◌+◌,
+  length,
+  IfOk,
+  IfSome,
+  Some,
+  None,
+  Ok,
+  Err,
+};
+ghost use Rattle.std.specs.Io.KnownBytes.{IsAtEnd, Appends};
+ghost use Rattle.col_prog.specs.Device.{Rose};
+ghost use Rattle.col_prog.specs.Reading.{Took, TookUpTo, AppendsFront};
+ghost use Rattle.col_prog.specs.Words.{command_of};
+ghost use Rattle.col_prog.specs.HelpText.{help_text, version_text};
+ghost use Rattle.col_prog.specs.Answer.{answer_of, IsAnswer, IsUnwritten, IsStatus, HoldsAnswer};
+
+use crate::answer::answer_to;
+use crate::device::{Failed, Sink, Source};
+use crate::reading::{MAX_SCRIPT, ReadError};
+use crate::status::Status;
+use crate::words::{Command, Words};
+use crate::writing::write_all;
+use col_expr::Steps;
+use std::alloc::Global;
+use std::sync::ledger::Ledger;
+
+/// Reads the words, then the source to its end, then builds the whole answer, and only then writes it.
+/// Each write offers all that is left of the answer. `steps` counts the slots of all nodes that are
+/// no inputs; no clause speaks of it yet.
+///
+/// Where a sink has limited room, the source has to tell its bytes and the room to hold the answer.
+#[tactic(auto, unfolding(crate::specs::Answer::answer_of))]
+pub fn run<S: Source, K: Sink, L: Ledger>(
+    alloc: Global,
+    words: &Words,
+    source: &mut S,
+    sink: &mut K,
+    steps: &mut Steps<L>,
+) -> Status
+    requires room { HoldsAnswer words.now (K.room sink.old) (S.left source.old) }
+
+    // The words tell no command: nothing is read or written.
+    ensures bad_words { (result ≡ Status.BadWords) ↔ (command_of words.now ≡ None) }
+    ensures bad_words_read { result ≡ Status.BadWords → source.new ≡ source.old }
+
+    // The texts that the program says of itself need no script, and nothing of it is read.
+    ensures help { command_of words.now ≡ Some Command.Help → IsAnswer result →
+        Appends (K.contents sink.old) (K.contents sink.new) help_text }
+    ensures help_read { command_of words.now ≡ Some Command.Help → source.new ≡ source.old }
+    ensures version { command_of words.now ≡ Some Command.Version → IsAnswer result →
+        Appends (K.contents sink.old) (K.contents sink.new) version_text }
+    ensures version_read { command_of words.now ≡ Some Command.Version → source.new ≡ source.old }
+
+    // The answer: the source was read to its end, and exactly the answer to its bytes was written.
+    ensures status { IsAnswer result → IfSome (S.left source.old) (λ bytes.
+        result ≡ (answer_of words.now bytes).status) }
+    ensures text { IsAnswer result → IfSome (S.left source.old) (λ bytes.
+        Appends (K.contents sink.old) (K.contents sink.new) (answer_of words.now bytes).text) }
+    ensures end { command_of words.now ≡ Some Command.Eval → IsAnswer result →
+        IsAtEnd (S.left source.new) }
+    ensures within { command_of words.now ≡ Some Command.Eval → IsAnswer result →
+        IfSome (S.left source.old) (λ bytes. length bytes ≤ MAX_SCRIPT) }
+
+    // The sink failed: a front of the answer was written.
+    ensures write_fault { result ≡ Status.WriteFault → Rose (K.faults sink.old) (K.faults sink.new) }
+    ensures write_front { result ≡ Status.WriteFault → IfSome (S.left source.old) (λ bytes.
+        AppendsFront (K.contents sink.old) (K.contents sink.new) (answer_of words.now bytes).text) }
+    ensures write_end { command_of words.now ≡ Some Command.Eval → result ≡ Status.WriteFault →
+        IsAtEnd (S.left source.new) }
+    ensures write_within { command_of words.now ≡ Some Command.Eval → result ≡ Status.WriteFault →
+        IfSome (S.left source.old) (λ bytes. length bytes ≤ MAX_SCRIPT) }
+
+    // It stopped short before the writing: nothing was written.
+    ensures unwritten { IsUnwritten result → sink.new ≡ sink.old }
+    ensures read_fault { result ≡ Status.ReadFault → Rose (S.faults source.old) (S.faults source.new) }
+    ensures read_front { result ≡ Status.ReadFault →
+        TookUpTo (S.left source.old) (S.left source.new) MAX_SCRIPT }
+    ensures too_long { result ≡ Status.TooLong →
+        Took (S.left source.old) (S.left source.new) (MAX_SCRIPT + 1) }
+    ensures no_memory { result ≡ Status.NoMemory →
+        TookUpTo (S.left source.old) (S.left source.new) (MAX_SCRIPT + 1) }
+
+    // Completeness: with a command, a script that isn't too long and devices that don't fail, the
+    // status is that of the answer, or memory is wanting.
+    ensures complete { IfSome (S.left source.old) (λ bytes. length bytes ≤ MAX_SCRIPT →
+        (Rose (S.faults source.old) (S.faults source.new) → ⊥) →
+        (Rose (K.faults sink.old) (K.faults sink.new) → ⊥) →
+        IsStatus result (answer_of words.now bytes).status) }
+{
+    let command = match words.command() {
+        Some(command) => command,
+        None => return Status::BadWords,
+    };
+    let answer = match answer_to(alloc, command, source, steps) {
+        Ok(answer) => answer,
+        Err(ReadError::Fault) => return Status::ReadFault,
+        Err(ReadError::TooLong) => return Status::TooLong,
+        Err(ReadError::NoMemory) => return Status::NoMemory,
+    };
+    match write_all(sink, answer.text.as_slice()) {
+        Ok(()) => answer.status,
+        Err(Failed) => Status::WriteFault,
+    }
+}

@@ -1,0 +1,4 @@
+pub mod TickLemmas
+pub mod CastLemmas
+pub mod ColumnLemmas
+pub mod LawLemmas

@@ -1,0 +1,4 @@
+pub mod Seen
+pub mod CastRow
+pub mod Slots
+pub mod Laws

@@ -1,0 +1,30 @@
+-- Slots of ticks: as a column's slots, under the cast table, and which are refused.
+use Rattle.std.specs.Prelude.{ℕ, ℤ, Bool, true, List, map, Option, Some, None, Result}
+use Rattle.std.specs.Int.{w64}
+use Rattle.col_types.specs.declared.data_type.DataType.{DataType}
+use Rattle.col_types.specs.declared.is_sorted.IsSorted.TheVariants.{Not}
+use Rattle.col_types.specs.declared.cast_options.CastOptions.{CastOptions}
+use Rattle.col_types.specs.declared.error.PolarsError.{PolarsError}
+use Rattle.col_model.specs.Arithmetic.{is_within, Signed, word_values}
+use Rattle.col_model.specs.Value.{Value, integer_slot}
+use Rattle.col_model.specs.Column.{Column}
+use Rattle.col_model.specs.CastTable.{CastRule, cast_rule}
+use Rattle.col_model.specs.ColumnCalls.{unless_refused, cast_refusal, cast_slot}
+
+-- the column of ticks, with no claim on their order
+abbrev pub ticks_column : List ℕ → DataType → List (Option ℤ) → Column
+ticks_column name dtype ticks = record { name = name; dtype = dtype; slots = map integer_slot ticks; flag = Not }
+
+-- whether the slot is null or a value of 64 bits
+abbrev pub is_tick_slot : Option ℤ → Bool
+is_tick_slot None = true
+is_tick_slot (Some x) = is_within (word_values (Signed w64)) x
+
+-- the slots of a cast by a row of the table or none, or why it is refused
+abbrev pub slots_by : DataType → DataType → CastOptions → Option CastRule → List (Option Value) → Result (List (Option Value)) PolarsError
+slots_by from target options rule slots =
+    unless_refused (cast_refusal from target options rule slots) (map (cast_slot rule) slots)
+
+-- the slots of a cast, or why it is refused
+abbrev pub slots_of_cast : DataType → DataType → CastOptions → List (Option Value) → Result (List (Option Value)) PolarsError
+slots_of_cast from target options slots = slots_by from target options (cast_rule from target options) slots

@@ -1,0 +1,97 @@
+-- Values of the grammar and of the texts, worked out by hand, so that a wrong definition does not
+-- check.
+use Rattle.std.proofs.Common.{◌≡◌, ◌^◌, ◌-◌, true, false, refl, [], ◌∷◌, pos, negsuc, Some, None, Ok, Err, replicate}
+use Rattle.std.specs.Prelude.{codes}
+use Rattle.std.specs.Fmt.{digits}
+use Rattle.col_types.specs.declared.time_unit.TimeUnit.TheVariants.{Nanoseconds, Microseconds, Milliseconds}
+use Rattle.col_types.specs.declared.data_type.DataType.{Datetime, Duration}
+use Rattle.col_types.specs.declared.cast_options.CastOptions.TheVariants.{NonStrict}
+use Rattle.col_types.specs.declared.is_sorted.IsSorted.TheVariants.{Not}
+use Rattle.col_model.specs.Value.{whole}
+use Rattle.col_expr.specs.Tree.{Input, Cast}
+use Rattle.col_expr.specs.declared.error.EvalError.TheVariants.{Strict}
+use Rattle.col_text.specs.Numbers.{integer_of, number_of}
+use Rattle.col_text.specs.Types.{dtype_named}
+use Rattle.col_text.specs.Slots.{is_name, slots_of}
+use Rattle.col_text.specs.Expression.{expression_line}
+use Rattle.col_text.specs.Script.{script_of}
+use Rattle.col_text.specs.Answer.{column_text, refusal_text, bad_line_text}
+
+-- a sign and zeros at the front are good, a sign alone is not
+signs : (integer_of (codes "+5") ≡ Some (pos 5)) × (integer_of (codes "-0") ≡ Some (pos 0))
+    × (integer_of (codes "-7") ≡ Some (negsuc 6))
+    × (integer_of (codes "007") ≡ Some (pos 7)) × (integer_of (codes "+") ≡ None)
+    × (integer_of (codes "+-5") ≡ None) × (integer_of [] ≡ None)
+signs = (refl, refl, refl, refl, refl, refl, refl)
+
+-- the ends of 128 bits, and one past each
+ends : (integer_of (codes "170141183460469231731687303715884105727") ≡ Some (pos (2 ^ 127 - 1)))
+    × (integer_of (codes "170141183460469231731687303715884105728") ≡ None)
+    × (integer_of (codes "-170141183460469231731687303715884105728") ≡ Some (negsuc (2 ^ 127 - 1)))
+    × (integer_of (codes "-170141183460469231731687303715884105729") ≡ None)
+ends = (refl, refl, refl, refl)
+
+-- a number takes zeros, no sign, and 32 bits
+numbers : (number_of (codes "00") ≡ Some 0) × (number_of (codes "+1") ≡ None)
+    × (number_of (codes "4294967295") ≡ Some 4294967295) × (number_of (codes "4294967296") ≡ None)
+numbers = (refl, refl, refl, refl)
+
+-- a name has at most 64 visible bytes
+names : (is_name (replicate 64 33) ≡ true) × (is_name (replicate 65 126) ≡ false)
+    × (is_name [] ≡ false) × (is_name (127 ∷ []) ≡ false)
+names = (refl, refl, refl, refl)
+
+-- units in brackets, and no zone
+dtypes : (dtype_named (codes "datetime[us]") ≡ Some (Datetime Microseconds None))
+    × (dtype_named (codes "duration[ms]") ≡ Some (Duration Milliseconds))
+    × (dtype_named (codes "datetime[ms,UTC]") ≡ None) × (dtype_named (codes "date") ≡ None)
+dtypes = (refl, refl, refl, refl)
+
+-- chunks leave no trace among the slots
+chunks : slots_of (codes "|" ∷ codes "1" ∷ codes "|" ∷ codes "|" ∷ codes "null" ∷ [])
+    ≡ Some (Some (pos 1) ∷ None ∷ [])
+chunks = refl
+
+-- a cast takes the tree before it, and one tree is left
+expressions : (expression_line (codes "$0" ∷ codes "cast:duration[ns]" ∷ [])
+    ≡ Some (Cast (Input 0) (Duration Nanoseconds) NonStrict))
+    × (expression_line (codes "cast:duration[ns]" ∷ codes "$0" ∷ []) ≡ None)
+    × (expression_line (codes "$0" ∷ codes "$1" ∷ []) ≡ None) × (expression_line [] ≡ None)
+expressions = (refl, refl, refl, refl)
+
+-- a column and an expression over it
+whole_script : script_of (codes "col a datetime[ns] -1 null\r\n\nexpr $0")
+    ≡ Ok (record {
+      inputs = record {
+        name = codes "a";
+        dtype = Datetime Nanoseconds None;
+        slots = Some (whole (negsuc 0)) ∷ None ∷ [];
+        flag = Not;
+      } ∷ [];
+      expr = Input 0;
+    })
+whole_script = refl
+
+-- the first bad line is named, and the one behind the last where no expression comes
+bad_lines : (script_of [] ≡ Err 1) × (script_of (13 ∷ []) ≡ Err 2)
+    × (script_of (codes "\nexpr $0\nx\ny") ≡ Err 3)
+    × (script_of (codes "expr $0\nexpr $0\n") ≡ Err 2)
+    × (script_of (codes "col a datetime[ns] 9223372036854775808\nexpr $0") ≡ Err 1)
+bad_lines = (refl, refl, refl, refl, refl)
+
+-- the text of a column
+column : column_text (record {
+  name = codes "a";
+  dtype = Datetime Milliseconds (Some (codes "UTC"));
+  slots = Some (whole (negsuc 9)) ∷ None ∷ [];
+  flag = Not;
+})
+    ≡ codes "a datetime[ms,UTC] 2\n-10\nnull\n"
+unfolding digits
+column = refl
+
+-- the lines of a refusal and of a bad script
+lines : (refusal_text (Strict 2 10) ≡ codes "refused 2 strict 10\n")
+    × (bad_line_text 12 ≡ codes "bad line 12\n")
+unfolding digits
+lines = (refl, refl)

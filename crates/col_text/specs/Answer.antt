@@ -1,0 +1,67 @@
+-- The texts of answers.
+use Rattle.std.specs.Prelude.{ℕ, ◌++◌, List, [], ◌∷◌, Option, Some, None, length, codes}
+use Rattle.std.specs.List.{flat_map}
+use Rattle.std.specs.Fmt.{decimal, signed_decimal}
+use Rattle.col_model.specs.Value.{Value, Flat, Nested, Whole, Bytes}
+use Rattle.col_model.specs.Column.{Column}
+use Rattle.col_series.specs.Seen.{Seen, null, datetime, duration}
+use Rattle.col_expr.specs.declared.error.EvalError.{EvalError}
+use Rattle.col_expr.specs.declared.error.EvalError.TheVariants as refusals
+use Rattle.col_text.specs.Types.{dtype_text}
+
+-- a line of this text
+abbrev pub line_of : List ℕ → List ℕ
+line_of text = text ++ (10 ∷ [])
+
+-- a null or an integer; no column of a script has other values
+abbrev pub slot_text : Option Value → List ℕ
+slot_text None = codes "null"
+slot_text (Some (Flat (Whole x))) = signed_decimal x
+slot_text (Some (Flat (Bytes bytes))) = []
+slot_text (Some (Nested leaves)) = []
+
+-- the same of what a slot shows
+abbrev pub seen_text : Seen → List ℕ
+seen_text null = codes "null"
+seen_text (datetime tick unit _) = signed_decimal tick
+seen_text (duration tick unit) = signed_decimal tick
+
+-- the line of the name, the type and the number of rows
+abbrev pub header_text : Column → List ℕ
+header_text column =
+    line_of (column.name ++ (codes " " ++ (dtype_text column.dtype
+    ++ (codes " " ++ decimal (length column.slots)))))
+
+-- that line, and then a line for each slot
+abbrev pub column_text : Column → List ℕ
+column_text column = header_text column ++ flat_map (λ slot. line_of (slot_text slot)) column.slots
+
+-- a refused node's number, and what the line says behind it
+abbrev pub refused_text : ℕ → List ℕ → List ℕ
+refused_text node rest = codes "refused " ++ (decimal node ++ (codes " " ++ rest))
+
+-- two numbers at the end of a line
+abbrev pub two_numbers : ℕ → ℕ → List ℕ
+two_numbers left right = decimal left ++ (codes " " ++ line_of (decimal right))
+
+-- the line of a refusal; want of memory is none
+abbrev pub refusal_text : EvalError → List ℕ
+refusal_text (refusals.NoColumn node index count) =
+    refused_text node (codes "column " ++ two_numbers index count)
+refusal_text (refusals.Lengths node left right) =
+    refused_text node (codes "lengths " ++ two_numbers left right)
+refusal_text (refusals.BadType node) = refused_text node (line_of (codes "type"))
+refusal_text (refusals.Unsupported node) = refused_text node (line_of (codes "unsupported"))
+refusal_text (refusals.Scalar node) = refused_text node (line_of (codes "scalar"))
+refusal_text (refusals.Strict node row) =
+    refused_text node (codes "strict " ++ line_of (decimal row))
+refusal_text refusals.NoMemory = []
+
+-- a refusal that has a line: all but want of memory
+abbrev pub HasText : EvalError → Type 0
+HasText refusals.NoMemory = ⊥
+HasText _ = Unit {0}
+
+-- the line of a bad script
+abbrev pub bad_line_text : ℕ → List ℕ
+bad_line_text number = line_of (codes "bad line " ++ decimal number)

@@ -1,0 +1,21 @@
+//! Scripts in, answers out.
+#![tactic(auto)]
+
+mod answer;
+mod column;
+mod dtypes;
+mod expression;
+mod line_error;
+mod numbers;
+mod script;
+mod stack;
+mod words;
+
+pub use answer::{answer_text, bad_line_text, fault_text};
+pub use col_expr::{EvalError, Expr, Inputs};
+pub use col_series::Series;
+pub use col_token::{Token, Tokens, line_count};
+pub use script::{ReadError, Script, read_script};
+
+#[cfg(test)]
+mod tests;
