@@ -1,5 +1,5 @@
 -- What the program answers to its words and to the bytes of its script.
-use Rattle.std.specs.Prelude.{◌≡◌, ◌≤◌, ℕ, List, [], Option, Some, None, Result, Ok, Err, length, codes}
+use Rattle.std.specs.Prelude.{◌≡◌, ◌≤◌, ℕ, List, [], Option, Some, None, Result, Ok, Err, length}
 use Rattle.std.specs.Option.{IsSomeAnd}
 use Rattle.col_model.specs.Column.{Column}
 use Rattle.col_expr.specs.declared.error.EvalError.{EvalError}
@@ -10,7 +10,7 @@ use Rattle.col_text.specs.Answer.{column_text, refusal_text, bad_line_text}
 use Rattle.col_prog.specs.declared.words.Command.{Command}
 use Rattle.col_prog.specs.declared.words.Command.TheVariants.{Eval, Help, Version}
 use Rattle.col_prog.specs.declared.status.Status.{Status}
-use Rattle.col_prog.specs.declared.status.Status.TheVariants.{Done, Refused, BadScript, BadWords, ReadFault, WriteFault, TooLong, NoMemory}
+use Rattle.col_prog.specs.declared.status.Status.TheVariants.{Done, Refused, BadScript, BadWords, ReadFault, TooLong, NoMemory}
 use Rattle.col_prog.specs.Words.{command_of}
 use Rattle.col_prog.specs.HelpText.{help_text, version_text}
 

@@ -1,5 +1,5 @@
 -- The texts that the program says of itself.
-use Rattle.std.specs.Prelude.{ℕ, List, ◌++◌, codes}
+use Rattle.std.specs.Prelude.{ℕ, List, codes}
 
 -- how the program is used
 abbrev pub help_text : List ℕ
