@@ -17,8 +17,17 @@ use col_text::{Script, answer_text, bad_line_text, fault_text, read_script};
 use std::alloc::{AllocError, Global};
 use std::sync::ledger::Ledger;
 
-const HELP: &str =
-    "tizlumed answers one expression over columns of moments and lengths of time.\n\nusage: tizlumed eval < SCRIPT\n       tizlumed --help\n       tizlumed --version\n\nA script has any number of lines `col NAME TYPE SLOT ..`, and then one line\n`expr TOKEN ..` in postfix order: `$N` is column N, `cast:TYPE` casts.\nA TYPE is datetime[UNIT] or duration[UNIT], a UNIT is ns, us or ms.\nA SLOT is `null` or an integer.\n";
+const HELP: &str = "\
+tizlumed answers one expression over columns of moments and lengths of time.\n\
+\n\
+usage: tizlumed eval < SCRIPT\n\
+\x20      tizlumed --help\n\
+\x20      tizlumed --version\n\
+\n\
+A script has any number of lines `col NAME TYPE SLOT ..`, and then one line\n\
+`expr TOKEN ..` in postfix order: `$N` is column N, `cast:TYPE` casts.\n\
+A TYPE is datetime[UNIT] or duration[UNIT], a UNIT is ns, us or ms.\n\
+A SLOT is `null` or an integer.\n";
 
 const VERSION: &str = "tizlumed 0.1.0\n";
 
