@@ -1,11 +1,11 @@
 // Runs that no list of rows can show: devices that fail, long scripts, deep expressions.
-ghost use Rattle.std.specs.Prelude.{◌<◌};
+ghost use Rattle.std.specs.Prelude.{◌≡◌, ◌<◌, ◌∷◌, [], IfOk};
 
 use super::{run_counted, words_of};
-use col_prog::{MemorySink, MemorySource, Status};
-use std::alloc::Global;
+use col_prog::{MemorySink, MemorySource, Status, Steps, SureSink, SureSource, Words, run};
+use std::alloc::{AllocError, Global};
 use std::marker::Brand;
-use std::sync::ledger::Blank;
+use std::sync::ledger::{Blank, Ledger};
 use std::test::Fail;
 
 const ROUNDING: &str = "col a datetime[ns] -1 | null 1999999\nexpr $0 cast:datetime[ms]\n";
@@ -78,5 +78,52 @@ fn the_deepest_chain(rt: HostRuntime) -> Result<(), Fail> {
         assert_eq!(rt; status, wanted, "at {casts}");
         assert_eq!(rt; sink.bytes(), text.as_bytes(), "at {casts}");
     }
+    Ok(())
+}
+
+const ROOM: usize = 1000;
+
+fn line_feed(alloc: Global) -> Result<SureSource, AllocError>
+    ensures left { IfOk result (λ source. source.left ≡ 10 ∷ []) }
+{
+    Ok(SureSource::new(Vec::from_slice(alloc, b"\n")?, 1))
+}
+
+fn room_of(alloc: Global, count: usize) -> Result<SureSink, AllocError>
+    ensures room { IfOk result (λ sink. sink.room ≡ count) }
+{
+    Ok(SureSink::new(vec![in alloc; 0u8; count]?, 2))
+}
+
+/// A run whose sink takes a limited number of bytes, which the answer has to fit.
+fn run_in_room<L: Ledger>(
+    alloc: Global,
+    words: &Words,
+    source: &mut SureSource,
+    sink: &mut SureSink,
+    blank: Blank,
+) -> Status
+    requires name { blank.name ≡ L.name }
+    requires parts { blank.parts ≡ L.parts }
+    requires open { 0 < blank.parts }
+    requires script { source.old.left ≡ 10 ∷ [] }
+    requires room { sink.old.room ≡ ROOM }
+{
+    run(alloc, words, source, sink, &mut Steps::<L>::new(blank))
+}
+
+fn answer_in_room(alloc: Global) -> Result<(Status, SureSink), Fail> {
+    let words = words_of(alloc, "eval")?;
+    let mut source = line_feed(alloc)?;
+    let mut sink = room_of(alloc, ROOM)?;
+    let status = run_in_room::<Brand>(alloc, &words, &mut source, &mut sink, Blank::new(1));
+    Ok((status, sink))
+}
+
+#[test]
+fn an_answer_fits_its_room(rt: HostRuntime) -> Result<(), Fail> {
+    let (status, sink) = answer_in_room(rt.alloc())?;
+    assert_eq!(rt; status, Status::BadScript);
+    assert_eq!(rt; sink.bytes(), b"bad line 2\n".as_slice());
     Ok(())
 }
