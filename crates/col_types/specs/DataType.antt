@@ -1,5 +1,5 @@
 -- The types of columns: their variant, their form without places in memory, their equality.
-use Rattle.std.specs.Prelude.{ℕ, Bool, true, false, ◌&&◌, nat_eq, List, Option, Some, None, Box}
+use Rattle.std.specs.Prelude.{ℕ, Bool, true, false, not, ◌&&◌, ◌||◌, nat_eq, nat_le, List, codes, Option, Some, None, Box}
 use Rattle.std.specs.declared.alloc.Global.{Global}
 use Rattle.std.specs.Str.{bytes_eq}
 use denote.RawPtr.{null_ptr}
@@ -31,11 +31,84 @@ kind_of (Decimal precision scale) = kinds.Decimal
 kind_of (List' place leaf) = kinds.List
 kind_of (Array' place leaf width) = kinds.Array
 
+-- Whether the type is one of the nine integers.
+abbrev pub is_integer : DataType → Bool
+is_integer Int8 = true
+is_integer Int16 = true
+is_integer Int32 = true
+is_integer Int64 = true
+is_integer Int128 = true
+is_integer UInt8 = true
+is_integer UInt16 = true
+is_integer UInt32 = true
+is_integer UInt64 = true
+is_integer _ = false
+
+-- Whether the type has a civil meaning.
+abbrev pub is_temporal : DataType → Bool
+is_temporal Date = true
+is_temporal (Datetime unit _) = true
+is_temporal (Duration unit) = true
+is_temporal Time = true
+is_temporal _ = false
+
+-- Whether each valid slot is an integer: integers, booleans, temporal types and decimals.
+abbrev pub holds_integers : DataType → Bool
+holds_integers Boolean = true
+holds_integers (Decimal precision scale) = true
+holds_integers dtype = is_integer dtype || is_temporal dtype
+
 -- Whether a slot holds slots.
 abbrev pub is_nested : DataType → Bool
 is_nested (List' place leaf) = true
 is_nested (Array' place leaf width) = true
 is_nested _ = false
+
+-- The innermost type.
+abbrev pub leaf_of : DataType → DataType
+leaf_of (List' place leaf) = leaf_of leaf
+leaf_of (Array' place leaf width) = leaf_of leaf
+leaf_of dtype = dtype
+
+-- Whether the zone is the wildcard, which stands for any zone.
+abbrev pub is_wildcard : Option (List ℕ) → Bool
+is_wildcard None = false
+is_wildcard (Some name) = bytes_eq name (codes "*")
+
+-- Whether a precision or a scale is missing, or is at most 38.
+abbrev pub is_allowed_digits : Option ℕ → Bool
+is_allowed_digits None = true
+is_allowed_digits (Some digits) = nat_le digits 38
+
+-- Whether a type that isn't nested is refused as a target: a wildcard, or too many digits.
+abbrev pub is_bad_leaf : DataType → Bool
+is_bad_leaf (Datetime unit name) = is_wildcard name
+is_bad_leaf (Decimal precision scale) =
+    not (is_allowed_digits precision && is_allowed_digits scale)
+is_bad_leaf _ = false
+
+-- Whether a type is refused as the target of a cast: a bad leaf, or more than one level of nesting.
+abbrev pub is_bad_target : DataType → Bool
+is_bad_target (List' place leaf) = is_nested leaf || is_bad_leaf leaf
+is_bad_target (Array' place leaf width) = is_nested leaf || is_bad_leaf leaf
+is_bad_target dtype = is_bad_leaf dtype
+
+-- Whether the type says how many digits stand behind the point, where it is a decimal.
+abbrev pub has_scale : DataType → Bool
+has_scale (Decimal precision None) = false
+has_scale _ = true
+
+-- Whether a column can be of the type.
+abbrev pub is_column_type : DataType → Bool
+is_column_type dtype = not (is_bad_target dtype) && has_scale (leaf_of dtype)
+
+-- Whether an expression's column can be of the type.
+abbrev pub is_expression_type : DataType → Bool
+is_expression_type dtype = is_column_type dtype && holds_integers dtype
+
+-- Whether a cast in an expression can have the type as its target.
+abbrev pub is_expression_target : DataType → Bool
+is_expression_target dtype = holds_integers dtype && not (is_bad_target dtype)
 
 -- A box without its place in memory.
 abbrev pub unplaced : Box (Unit {0}) Global → Box (Unit {0}) Global
