@@ -1,7 +1,7 @@
 -- What the calls of a column answer, want of memory aside.
-use Rattle.std.specs.Prelude.{ℕ, ◌+◌, ◌^◌, ℤ, Bool, ◌&&◌, not, List, [], ◌∷◌, length, map, take, nat_lt, Option, Some, None, is_some, is_none, slice_index_or, Result, Ok, Err, if◌then◌else◌}
+use Rattle.std.specs.Prelude.{ℕ, ◌+◌, ◌^◌, ℤ, Bool, ◌&&◌, ◌||◌, not, List, [], ◌∷◌, length, map, take, nat_lt, Option, Some, None, is_some, is_none, slice_index_or, Result, Ok, Err, if◌then◌else◌}
 use Rattle.std.specs.List.{list_any, position_from}
-use Rattle.col_types.specs.DataType.{kind_of}
+use Rattle.col_types.specs.DataType.{kind_of, is_temporal, is_bad_target}
 use Rattle.col_types.specs.declared.data_type.DataType.{DataType}
 use Rattle.col_types.specs.declared.cast_options.CastOptions.{CastOptions}
 use Rattle.col_types.specs.declared.cast_options.CastOptions.TheVariants.{Strict}
@@ -64,11 +64,21 @@ abbrev pub strict_refusal : CastOptions → Option ℕ → Option PolarsError
 strict_refusal Strict (Some row) = Some (errors.Strict row)
 strict_refusal _ lost = None
 
--- why a cast is refused: a pair outside the table with a valid slot, then a strict cast that loses one
-abbrev pub cast_refusal : DataType → DataType → CastOptions → Option CastRule → List (Option Value) → Option PolarsError
-cast_refusal from target options None slots =
+-- why a cast to a target that isn't bad is refused: a pair outside the table with a valid slot, then a strict cast that loses one
+abbrev pub pair_refusal : DataType → DataType → CastOptions → Option CastRule → List (Option Value) → Option PolarsError
+pair_refusal from target options None slots =
     if list_any is_some slots then Some (errors.CastPair (kind_of from) (kind_of target)) else None
-cast_refusal from target options (Some rule) slots = strict_refusal options (first_lost (cast_slot (Some rule)) 0 slots)
+pair_refusal from target options (Some rule) slots = strict_refusal options (first_lost (cast_slot (Some rule)) 0 slots)
+
+-- why a cast is refused: a bad target comes first
+abbrev pub cast_refusal : DataType → DataType → CastOptions → Option CastRule → List (Option Value) → Option PolarsError
+cast_refusal from target options rule slots =
+    if is_bad_target target then Some (errors.BadType (kind_of target))
+    else pair_refusal from target options rule slots
+
+-- whether a cast can be asked for the target: columns of the type exist, or it is refused
+abbrev pub is_built_target : DataType → Bool
+is_built_target target = is_temporal target || is_bad_target target
 
 -- the column that a cast gives where it isn't refused
 abbrev pub cast_column : Column → DataType → Option CastRule → Column

@@ -2,7 +2,7 @@
 use Rattle.std.specs.Prelude.{◌≡◌, ◌*ℤ◌, ◌+ℤ◌, ◌≤ℤ◌, ◌<ℤ◌, ℕ, ℤ, pos, neg_ℤ, negsuc, Option, Some, None}
 use Rattle.col_types.specs.declared.time_unit.TimeUnit.TheVariants.{Nanoseconds, Microseconds, Milliseconds}
 use Rattle.col_model.specs.Arithmetic.{floor_by, trunc_by}
-use Rattle.col_model.specs.Formula.{Formula, value_of}
+use Rattle.col_model.specs.Formula.{Formula, X, value_of}
 use Rattle.col_model.specs.UnitChange.{datetime_in_unit, duration_in_unit}
 
 -- the quotient rounded down is the greatest integer whose multiple doesn't pass x
@@ -20,17 +20,17 @@ value_at formula x = value_of formula x x
 
 -- a moment in a coarser unit rounds down, and one in a finer unit is null past 64 bits
 pub record KnownDatetimes : Type 0 where
-  pub before_zero : value_at (datetime_in_unit Nanoseconds Milliseconds) (negsuc 0) ≡ Some (negsuc 0)
-  pub after_zero : value_at (datetime_in_unit Nanoseconds Milliseconds) (pos 1999999) ≡ Some (pos 1)
-  pub least : value_at (datetime_in_unit Nanoseconds Microseconds) (negsuc 9223372036854775807) ≡ Some (negsuc 9223372036854775)
-  pub greatest_that_fits : value_at (datetime_in_unit Milliseconds Nanoseconds) (pos 9223372036854) ≡ Some (pos 9223372036854000000)
-  pub past_it : value_at (datetime_in_unit Milliseconds Nanoseconds) (pos 9223372036855) ≡ None
-  pub greatest : value_at (datetime_in_unit Milliseconds Nanoseconds) (pos 9223372036854775807) ≡ None
+  pub before_zero : value_at (datetime_in_unit Nanoseconds Milliseconds X) (negsuc 0) ≡ Some (negsuc 0)
+  pub after_zero : value_at (datetime_in_unit Nanoseconds Milliseconds X) (pos 1999999) ≡ Some (pos 1)
+  pub least : value_at (datetime_in_unit Nanoseconds Microseconds X) (negsuc 9223372036854775807) ≡ Some (negsuc 9223372036854775)
+  pub greatest_that_fits : value_at (datetime_in_unit Milliseconds Nanoseconds X) (pos 9223372036854) ≡ Some (pos 9223372036854000000)
+  pub past_it : value_at (datetime_in_unit Milliseconds Nanoseconds X) (pos 9223372036855) ≡ None
+  pub greatest : value_at (datetime_in_unit Milliseconds Nanoseconds X) (pos 9223372036854775807) ≡ None
 
 -- a length of time in a coarser unit rounds towards zero
 pub record KnownDurations : Type 0 where
-  pub below_zero : value_at (duration_in_unit Nanoseconds Milliseconds) (negsuc 0) ≡ Some (pos 0)
-  pub above_zero : value_at (duration_in_unit Nanoseconds Milliseconds) (pos 1999999) ≡ Some (pos 1)
-  pub least : value_at (duration_in_unit Nanoseconds Microseconds) (negsuc 9223372036854775807) ≡ Some (negsuc 9223372036854774)
-  pub same : value_at (duration_in_unit Milliseconds Milliseconds) (negsuc 9223372036854775807) ≡ Some (negsuc 9223372036854775807)
-  pub least_in_finer : value_at (duration_in_unit Milliseconds Microseconds) (negsuc 9223372036854775807) ≡ None
+  pub below_zero : value_at (duration_in_unit Nanoseconds Milliseconds X) (negsuc 0) ≡ Some (pos 0)
+  pub above_zero : value_at (duration_in_unit Nanoseconds Milliseconds X) (pos 1999999) ≡ Some (pos 1)
+  pub least : value_at (duration_in_unit Nanoseconds Microseconds X) (negsuc 9223372036854775807) ≡ Some (negsuc 9223372036854774)
+  pub same : value_at (duration_in_unit Milliseconds Milliseconds X) (negsuc 9223372036854775807) ≡ Some (negsuc 9223372036854775807)
+  pub least_in_finer : value_at (duration_in_unit Milliseconds Microseconds X) (negsuc 9223372036854775807) ≡ None

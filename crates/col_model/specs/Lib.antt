@@ -9,4 +9,5 @@ pub mod CastTable
 pub mod OperatorTable
 pub mod ScalarTable
 pub mod ColumnCalls
+pub mod OperatorCalls
 pub mod Laws

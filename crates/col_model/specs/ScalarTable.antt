@@ -1,19 +1,64 @@
 -- The scalar forms, which meet a column with one integer, and the changes of a column's unit.
-use Rattle.std.specs.Prelude.{ℤ, Option, None}
-use Rattle.col_types.specs.declared.data_type.DataType.{DataType}
+use Rattle.std.specs.Prelude.{ℤ, Bool, false, Option, Some, None}
+use Rattle.std.specs.Option.{option_map}
+use Rattle.col_types.specs.declared.data_type.DataType.{DataType, Datetime, Duration, Time}
 use Rattle.col_types.specs.declared.time_unit.TimeUnit.{TimeUnit}
 use Rattle.col_types.specs.declared.operator.BinOp.{BinOp}
+use Rattle.col_types.specs.declared.operator.BinOp.TheVariants as ops
 use Rattle.col_types.specs.declared.operator.ScalarOp.{ScalarOp}
-use Rattle.col_model.specs.OperatorTable.{OperatorRule}
+use Rattle.col_types.specs.declared.operator.ScalarOp.TheVariants as scalar_ops
+use Rattle.col_model.specs.Arithmetic.{WordType, is_within, word_values}
+use Rattle.col_model.specs.Column.{physical_word, day_values}
+use Rattle.col_model.specs.Formula.{Formula, X, Constant, Sum, Difference, Product, FloorDiv, TruncDiv, FloorMod, Fit, Wrap}
+use Rattle.col_model.specs.UnitChange.{unit_change, wrapped_datetime_by, wrapped_duration_by}
+use Rattle.col_model.specs.OperatorTable.{OperatorRule, giving}
 
--- the row for a column with an integer on its right, or none; no form is built yet
+-- a column's value joined with an integer on its right
+abbrev pub right_form : ScalarOp → ℤ → WordType → Formula
+right_form scalar_ops.Add k word = Wrap word (Sum X (Constant k))
+right_form scalar_ops.Sub k word = Wrap word (Difference X (Constant k))
+right_form scalar_ops.Mul k word = Wrap word (Product X (Constant k))
+right_form scalar_ops.Div k word = Wrap word (FloorDiv X (Constant k))
+right_form scalar_ops.Rem k word = FloorMod X (Constant k)
+right_form scalar_ops.TruncDiv k word = Wrap word (TruncDiv X (Constant k))
+
+-- an integer joined with a column's value on its right
+abbrev pub left_form : ℤ → BinOp → WordType → Formula
+left_form k ops.Add word = Wrap word (Sum (Constant k) X)
+left_form k ops.Sub word = Wrap word (Difference (Constant k) X)
+left_form k ops.Mul word = Wrap word (Product (Constant k) X)
+left_form k ops.Div word = Wrap word (FloorDiv (Constant k) X)
+left_form k ops.Rem word = FloorMod (Constant k) X
+
+-- a time outside the day is null; other types have no bound but their word
+abbrev pub bounded : DataType → Formula → Formula
+bounded Time value = Fit day_values value
+bounded _ value = value
+
+-- the row that keeps the type, where the type has a word
+abbrev pub scalar_rule : DataType → (WordType → Formula) → Option OperatorRule
+scalar_rule dtype form =
+    option_map (λ word. record { dtype = dtype; formula = bounded dtype (form word) }) (physical_word dtype)
+
+-- the row for a column with an integer on its right, or none
 abbrev pub scalar_right_rule : DataType → ScalarOp → ℤ → Option OperatorRule
-scalar_right_rule dtype op value = None
+scalar_right_rule dtype op k = scalar_rule dtype (right_form op k)
 
--- the row for an integer with a column on its right, or none; no form is built yet
+-- the row for an integer with a column on its right, or none
 abbrev pub scalar_left_rule : ℤ → BinOp → DataType → Option OperatorRule
-scalar_left_rule value op dtype = None
+scalar_left_rule k op dtype = scalar_rule dtype (left_form k op)
 
--- the row for a change to the unit, or none; it is not built yet
+-- whether there is a word, and it has the integer
+abbrev pub is_scalar_in : Option WordType → ℤ → Bool
+is_scalar_in None k = false
+is_scalar_in (Some word) k = is_within (word_values word) k
+
+-- whether a column of the type can meet the integer: the word of the type has it
+abbrev pub is_scalar_of : DataType → ℤ → Bool
+is_scalar_of dtype k = is_scalar_in (physical_word dtype) k
+
+-- the row for a change to the unit, or none
 abbrev pub unit_change_rule : DataType → TimeUnit → Option OperatorRule
-unit_change_rule dtype unit = None
+unit_change_rule (Datetime from y) to = giving (Datetime to y) (wrapped_datetime_by (unit_change from to) X)
+unit_change_rule (Duration from) to = giving (Duration to) (wrapped_duration_by (unit_change from to) X)
+unit_change_rule _ to = None

@@ -1,6 +1,6 @@
 // How ticks of one unit become ticks of another.
 ghost use Rattle.std.specs.Prelude.{◌≡◌};
-ghost use Rattle.col_model.specs.Formula.{value_of};
+ghost use Rattle.col_model.specs.Formula.{X, value_of};
 ghost use Rattle.col_model.specs.UnitChange.{unit_change, IsProper, in_finer_unit};
 ghost use Rattle.col_model.specs.UnitChange.{datetime_by, duration_by};
 ghost use Rattle.col_model.specs.UnitChange.{datetime_in_unit, duration_in_unit};
@@ -33,7 +33,7 @@ pub fn unit_change(from: TimeUnit, to: TimeUnit) -> UnitChange
 }
 
 fn in_finer_unit(tick: i64, factor: u32) -> Option<i64>
-    ensures value { result ≡ value_of (in_finer_unit factor) tick tick }
+    ensures value { result ≡ value_of (in_finer_unit factor X) tick tick }
 {
     tick.checked_mul(i64::from(factor))
 }
@@ -42,7 +42,7 @@ fn in_finer_unit(tick: i64, factor: u32) -> Option<i64>
 /// 64 bits.
 pub fn datetime_by(tick: i64, change: UnitChange) -> Option<i64>
     requires proper { IsProper change }
-    ensures value { result ≡ value_of (datetime_by change) tick tick }
+    ensures value { result ≡ value_of (datetime_by change X) tick tick }
 {
     match change {
         UnitChange::Finer(factor) => in_finer_unit(tick, factor),
@@ -55,7 +55,7 @@ pub fn datetime_by(tick: i64, change: UnitChange) -> Option<i64>
 /// finer one leaves 64 bits.
 pub fn duration_by(tick: i64, change: UnitChange) -> Option<i64>
     requires proper { IsProper change }
-    ensures value { result ≡ value_of (duration_by change) tick tick }
+    ensures value { result ≡ value_of (duration_by change X) tick tick }
 {
     match change {
         UnitChange::Finer(factor) => in_finer_unit(tick, factor),
@@ -66,14 +66,14 @@ pub fn duration_by(tick: i64, change: UnitChange) -> Option<i64>
 
 /// A moment in another unit, as `datetime_by` the change between the two units.
 pub fn datetime_in_unit(tick: i64, from: TimeUnit, to: TimeUnit) -> Option<i64>
-    ensures value { result ≡ value_of (datetime_in_unit from to) tick tick }
+    ensures value { result ≡ value_of (datetime_in_unit from to X) tick tick }
 {
     datetime_by(tick, unit_change(from, to))
 }
 
 /// A length of time in another unit, as `duration_by` the change between the two units.
 pub fn duration_in_unit(tick: i64, from: TimeUnit, to: TimeUnit) -> Option<i64>
-    ensures value { result ≡ value_of (duration_in_unit from to) tick tick }
+    ensures value { result ≡ value_of (duration_in_unit from to X) tick tick }
 {
     duration_by(tick, unit_change(from, to))
 }
