@@ -1,14 +1,20 @@
 -- Which trees an expression can hold so far, and why one is not built.
-use Rattle.std.specs.Prelude.{◌≡◌, ℕ, ◌<◌, ◌≤◌, Bool, true, false, ◌&&◌}
-use Rattle.col_model.specs.Column.{is_column_type}
+use Rattle.std.specs.Prelude.{◌≡◌, ℕ, ◌<◌, ◌≤◌, Bool, true, false, not, ◌&&◌, ◌||◌}
+use Rattle.col_types.specs.DataType.{is_temporal, holds_integers}
+use Rattle.col_types.specs.declared.data_type.DataType.{DataType}
 use Rattle.col_expr.specs.declared.error.ExprCause.{ExprCause}
 use Rattle.col_expr.specs.declared.error.ExprCause.TheVariants as causes
 use Rattle.col_expr.specs.Tree.{Tree, Input, Cast, node_count, depth_of, max_nodes, max_depth}
 
--- inputs, and casts to types whose columns exist
+-- whether a cast to the target is built: integers, booleans and decimals have no columns yet, and
+-- texts, bytes and nested types are refused when they are evaluated
+abbrev pub is_built_cast : DataType → Bool
+is_built_cast target = is_temporal target || not (holds_integers target)
+
+-- inputs, and casts to built targets
 abbrev pub is_built : Tree → Bool
 is_built (Input index) = true
-is_built (Cast operand dtype options) = is_column_type dtype && is_built operand
+is_built (Cast operand target options) = is_built_cast target && is_built operand
 is_built _ = false
 
 -- the two counts are the tree's and within the limits, and the tree is one that can be held

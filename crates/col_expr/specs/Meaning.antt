@@ -1,6 +1,7 @@
 -- The name, the type, the rows and each slot of a node, over the columns that an expression is given.
-use Rattle.std.specs.Prelude.{ℕ, ℤ, ◌+◌, List, [], length, Option, Some, None, slice_get, slice_index_or, unwrap_or}
+use Rattle.std.specs.Prelude.{ℕ, ℤ, ◌+◌, List, [], length, Option, Some, None, slice_get, slice_index_or, unwrap_or, if◌then◌else◌}
 use Rattle.std.specs.Option.{option_map, option_and_then}
+use Rattle.col_types.specs.DataType.{is_expression_target}
 use Rattle.col_types.specs.declared.data_type.DataType.{DataType, Boolean}
 use Rattle.col_types.specs.declared.cast_options.CastOptions.{CastOptions}
 use Rattle.col_types.specs.declared.time_unit.TimeUnit.{TimeUnit}
@@ -8,14 +9,14 @@ use Rattle.col_types.specs.declared.operator.BinOp.{BinOp}
 use Rattle.col_types.specs.declared.operator.ScalarOp.{ScalarOp}
 use Rattle.col_types.specs.declared.is_sorted.IsSorted.{IsSorted}
 use Rattle.col_types.specs.declared.is_sorted.IsSorted.TheVariants.{Not}
-use Rattle.col_model.specs.Value.{Value, on_slot, on_slots}
+use Rattle.col_model.specs.Value.{Value}
 use Rattle.col_model.specs.Column.{Column}
-use Rattle.col_model.specs.Formula.{value_of}
 use Rattle.col_model.specs.Broadcast.{column_slots, broadcast_length, operand_row, row_before}
 use Rattle.col_model.specs.CastTable.{CastRule, cast_rule, resolved_target}
 use Rattle.col_model.specs.OperatorTable.{OperatorRule, operator_rule}
 use Rattle.col_model.specs.ScalarTable.{scalar_right_rule, scalar_left_rule, unit_change_rule}
 use Rattle.col_model.specs.ColumnCalls.{cast_slot}
+use Rattle.col_model.specs.OperatorCalls.{slot_by, slots_by}
 use Rattle.col_expr.specs.Tree.{Tree, Input, Cast, Binary, ScalarRight, ScalarLeft, InUnit, Shift}
 
 -- ---- the rows of the tables, where the operands have types
@@ -46,6 +47,11 @@ broadcast_length_for None right = None
 broadcast_length_for (Some left) None = None
 broadcast_length_for (Some left) (Some right) = broadcast_length left right
 
+-- the type of a cast, none for a target that no expression can have
+abbrev pub cast_dtype : Option DataType → DataType → Option DataType
+cast_dtype from target =
+    if is_expression_target target then option_map (λ dtype. resolved_target dtype target) from else None
+
 -- the type of a row's answer
 abbrev pub rule_dtype : Option OperatorRule → Option DataType
 rule_dtype rule = option_map (λ (r : OperatorRule). r.dtype) rule
@@ -53,12 +59,12 @@ rule_dtype rule = option_map (λ (r : OperatorRule). r.dtype) rule
 -- the slot of a row on one slot, null where there is no row
 abbrev pub rule_slot : Option OperatorRule → Option Value → Option Value
 rule_slot None slot = None
-rule_slot (Some rule) slot = on_slot (λ x. value_of rule.formula x x) slot
+rule_slot (Some rule) slot = slot_by rule slot
 
 -- the slot of a row on two slots, null where there is no row
 abbrev pub rule_slots : Option OperatorRule → Option Value → Option Value → Option Value
 rule_slots None left right = None
-rule_slots (Some rule) left right = on_slots (value_of rule.formula) left right
+rule_slots (Some rule) left right = slots_by rule left right
 
 -- ---- a node
 
@@ -72,10 +78,10 @@ name_of inputs (ScalarLeft value op operand) = name_of inputs operand
 name_of inputs (InUnit operand unit) = name_of inputs operand
 name_of inputs (Shift operand periods) = name_of inputs operand
 
--- the type of a node, none where an operand has none or no table has a row
+-- the type of a node, none where an operand has none, a cast's target is bad, or no table has a row
 abbrev pub dtype_of : List Column → Tree → Option DataType
 dtype_of inputs (Input index) = option_map (λ (c : Column). c.dtype) (slice_get inputs index)
-dtype_of inputs (Cast operand target options) = option_map (λ from. resolved_target from target) (dtype_of inputs operand)
+dtype_of inputs (Cast operand target options) = cast_dtype (dtype_of inputs operand) target
 dtype_of inputs (Binary op left right) = rule_dtype (operator_rule_for op (dtype_of inputs left) (dtype_of inputs right))
 dtype_of inputs (ScalarRight operand op value) = rule_dtype (scalar_right_rule_for (dtype_of inputs operand) op value)
 dtype_of inputs (ScalarLeft value op operand) = rule_dtype (scalar_left_rule_for value op (dtype_of inputs operand))

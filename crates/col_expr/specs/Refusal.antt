@@ -1,6 +1,7 @@
 -- Which node of an expression is refused first, and why.
-use Rattle.std.specs.Prelude.{◌≡◌, ℕ, ◌+◌, nat_lt, List, length, Option, Some, None, Result, Ok, Err, if◌then◌else◌}
+use Rattle.std.specs.Prelude.{◌≡◌, ℕ, ◌+◌, ℤ, Bool, false, nat_lt, List, length, Option, Some, None, Result, Ok, Err, if◌then◌else◌}
 use Rattle.std.specs.Option.{option_map}
+use Rattle.col_types.specs.DataType.{is_expression_target}
 use Rattle.col_types.specs.declared.data_type.DataType.{DataType}
 use Rattle.col_types.specs.declared.cast_options.CastOptions.{CastOptions}
 use Rattle.col_types.specs.declared.error.PolarsError.{PolarsError}
@@ -9,28 +10,61 @@ use Rattle.col_model.specs.Column.{Column}
 use Rattle.col_model.specs.Value.{Value}
 use Rattle.col_model.specs.Broadcast.{column_slots}
 use Rattle.col_model.specs.OperatorTable.{OperatorRule}
-use Rattle.col_model.specs.ColumnCalls.{cast_refusal, unless_refused}
+use Rattle.col_model.specs.ScalarTable.{is_scalar_of}
+use Rattle.col_model.specs.ColumnCalls.{pair_refusal, unless_refused}
 use Rattle.col_expr.specs.declared.error.EvalError.{EvalError}
 use Rattle.col_expr.specs.declared.error.EvalError.TheVariants as refusals
 use Rattle.col_expr.specs.Tree.{Tree, Input, Cast, Binary, ScalarRight, ScalarLeft, InUnit, Shift, node_count}
 use Rattle.col_expr.specs.Meaning.{dtype_of, rows_of, row_count, slot_at, cast_rule_for, operator_rule_for, scalar_right_rule_for, scalar_left_rule_for, unit_change_rule_for, broadcast_length_for, result_column}
 
--- a column's refusal as that of a node; a cast, the one call of a column that is built, gives these alone
+-- a column's refusal as that of a node. No call that a node makes is refused for the last causes.
 abbrev pub at_node : ℕ → PolarsError → EvalError
+at_node node (errors.Lengths left right) = refusals.Lengths node left right
+at_node node (errors.Types op left right) = refusals.Unsupported node
 at_node node (errors.CastPair from to) = refusals.Unsupported node
+at_node node (errors.BadType dtype) = refusals.BadType node
+at_node node (errors.Scale scale) = refusals.Unsupported node
+at_node node (errors.Scalar value) = refusals.Scalar node
 at_node node (errors.Strict row) = refusals.Strict node row
-at_node node _ = refusals.NoMemory
+at_node node errors.NoMemory = refusals.NoMemory
+at_node node (errors.Precision precision digits) = refusals.NoMemory
+at_node node errors.GatherZero = refusals.NoMemory
+at_node node errors.Zone = refusals.NoMemory
+at_node node (errors.Calendar row) = refusals.NoMemory
+at_node node (errors.Fit row) = refusals.NoMemory
+at_node node errors.Format = refusals.NoMemory
+at_node node (errors.OutOfBounds index len) = refusals.NoMemory
+at_node node errors.SchemaMismatch = refusals.NoMemory
+at_node node (errors.TooLong len) = refusals.NoMemory
+at_node node errors.FalseMark = refusals.NoMemory
 
--- the refusal of a cast of an operand of this type and these slots
+-- the refusal of a cast of an operand of this type and these slots to a target that isn't bad
+abbrev pub pair_refusal_at : ℕ → Option DataType → DataType → CastOptions → List (Option Value) → Option EvalError
+pair_refusal_at node None target options slots = None
+pair_refusal_at node (Some from) target options slots =
+    option_map (at_node node) (pair_refusal from target options (cast_rule_for (Some from) target options) slots)
+
+-- the refusal of a cast: a target that no expression can have, then a pair outside the table, then a lost slot
 abbrev pub cast_refusal_at : ℕ → Option DataType → DataType → CastOptions → List (Option Value) → Option EvalError
-cast_refusal_at node None target options slots = None
-cast_refusal_at node (Some from) target options slots =
-    option_map (at_node node) (cast_refusal from target options (cast_rule_for (Some from) target options) slots)
+cast_refusal_at node from target options slots =
+    if is_expression_target target then pair_refusal_at node from target options slots
+    else Some (refusals.BadType node)
 
 -- a node without a row in its table is refused
 abbrev pub unsupported_at : ℕ → Option OperatorRule → Option EvalError
 unsupported_at node None = Some (refusals.Unsupported node)
 unsupported_at node (Some rule) = None
+
+-- whether the operand's type has a word, and the word has the integer
+abbrev pub is_scalar_for : Option DataType → ℤ → Bool
+is_scalar_for None k = false
+is_scalar_for (Some dtype) k = is_scalar_of dtype k
+
+-- an operand and an integer are refused for the type, and then for the integer
+abbrev pub scalar_refusal_at : ℕ → Option DataType → ℤ → Option OperatorRule → Option EvalError
+scalar_refusal_at node dtype k None = Some (refusals.Unsupported node)
+scalar_refusal_at node dtype k (Some rule) =
+    if is_scalar_for dtype k then None else Some (refusals.Scalar node)
 
 -- two operands are refused for their lengths, and then for their types
 abbrev pub binary_refusal_at : ℕ → ℕ → ℕ → Option ℕ → Option OperatorRule → Option EvalError
@@ -46,8 +80,10 @@ refusal_at inputs node (Binary op left right) =
     binary_refusal_at node (row_count inputs left) (row_count inputs right)
     (broadcast_length_for (rows_of inputs left) (rows_of inputs right))
     (operator_rule_for op (dtype_of inputs left) (dtype_of inputs right))
-refusal_at inputs node (ScalarRight operand op value) = unsupported_at node (scalar_right_rule_for (dtype_of inputs operand) op value)
-refusal_at inputs node (ScalarLeft value op operand) = unsupported_at node (scalar_left_rule_for value op (dtype_of inputs operand))
+refusal_at inputs node (ScalarRight operand op k) =
+    scalar_refusal_at node (dtype_of inputs operand) k (scalar_right_rule_for (dtype_of inputs operand) op k)
+refusal_at inputs node (ScalarLeft k op operand) =
+    scalar_refusal_at node (dtype_of inputs operand) k (scalar_left_rule_for k op (dtype_of inputs operand))
 refusal_at inputs node (InUnit operand unit) = unsupported_at node (unit_change_rule_for (dtype_of inputs operand) unit)
 refusal_at inputs node (Shift operand periods) = None
 
