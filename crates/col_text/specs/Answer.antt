@@ -4,7 +4,7 @@ use Rattle.std.specs.List.{flat_map}
 use Rattle.std.specs.Fmt.{decimal, signed_decimal}
 use Rattle.col_model.specs.Value.{Value, Flat, Nested, Whole, Bytes}
 use Rattle.col_model.specs.Column.{Column}
-use Rattle.col_series.specs.Seen.{Seen, null, datetime, duration}
+use Rattle.col_series.specs.Seen.{Seen, null, date, datetime, duration, time}
 use Rattle.col_expr.specs.declared.error.EvalError.{EvalError}
 use Rattle.col_expr.specs.declared.error.EvalError.TheVariants as refusals
 use Rattle.col_text.specs.Types.{dtype_text}
@@ -23,8 +23,10 @@ slot_text (Some (Nested leaves)) = []
 -- the same of what a slot shows
 abbrev pub seen_text : Seen → List ℕ
 seen_text null = codes "null"
+seen_text (date day) = signed_decimal day
 seen_text (datetime tick unit _) = signed_decimal tick
 seen_text (duration tick unit) = signed_decimal tick
+seen_text (time tick) = signed_decimal tick
 
 -- the line of the name, the type and the number of rows
 abbrev pub header_text : Column → List ℕ

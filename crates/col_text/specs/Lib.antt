@@ -1,4 +1,5 @@
 pub mod Numbers
+pub mod Parts
 pub mod Types
 pub mod Slots
 pub mod Expression

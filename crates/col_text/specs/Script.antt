@@ -1,6 +1,8 @@
--- The script: lines of columns, and then the line of the expression.
-use Rattle.std.specs.Prelude.{◌≡◌, ℕ, ◌+◌, List, [], ◌∷◌, ◌++◌, length, Option, Some, None, Result, Ok, Err, option_map, if◌then◌else◌, codes}
+-- The script: lines of zones and columns, and then the line of the expression.
+use Rattle.std.specs.Prelude.{◌≡◌, ℕ, ◌+◌, Bool, ◌&&◌, ◌||◌, nat_eq, nat_lt, nat_le, List, [], ◌∷◌, ◌++◌, length, Option, Some, None, Result, Ok, Err, option_map, if◌then◌else◌, codes}
+use Rattle.std.specs.List.{list_all, list_any}
 use Rattle.std.specs.Str.{bytes_eq}
+use Rattle.col_types.specs.Zones.{with_name}
 use Rattle.col_model.specs.Column.{Column}
 use Rattle.col_token.specs.Lines.{lines_of}
 use Rattle.col_token.specs.Tokens.{tokens_of}
@@ -12,28 +14,46 @@ use Rattle.col_text.specs.declared.script.ReadError.TheVariants as errors
 use Rattle.col_text.specs.Slots.{column_line}
 use Rattle.col_text.specs.Expression.{expression_line}
 
+-- a letter, a digit, or one of the signs of zones' names
+abbrev pub is_zone_byte : ℕ → Bool
+is_zone_byte byte =
+    (nat_le 48 byte && nat_le byte 57) || (nat_le 65 byte && nat_le byte 90)
+    || (nat_le 97 byte && nat_le byte 122) || list_any (nat_eq byte) (codes "/_+-:")
+
+-- the name of a zone that a script can hand in has 1 to 64 such bytes
+abbrev pub is_zone_name : List ℕ → Bool
+is_zone_name text =
+    nat_lt 0 (length text) && nat_le (length text) 64 && list_all is_zone_byte text
+
+-- one zone more, where one name stands behind `zone`
+abbrev pub with_zone : List (List ℕ) → List Column → List (List ℕ) → Option Stage
+with_zone zones inputs (name ∷ []) =
+    if is_zone_name name then Some (Columns (with_name zones name) inputs) else None
+with_zone zones inputs _ = None
+
 -- one column more
-abbrev pub with_column : List Column → List (List ℕ) → Option Stage
-with_column inputs tokens =
-    option_map (λ column. Columns (inputs ++ column ∷ [])) (column_line tokens)
+abbrev pub with_column : List (List ℕ) → List Column → List (List ℕ) → Option Stage
+with_column zones inputs tokens =
+    option_map (λ column. Columns zones (inputs ++ column ∷ [])) (column_line zones tokens)
 
 -- the script, with its expression
-abbrev pub with_expression : List Column → List (List ℕ) → Option Stage
-with_expression inputs tokens =
+abbrev pub with_expression : List (List ℕ) → List Column → List (List ℕ) → Option Stage
+with_expression zones inputs tokens =
     option_map (λ tree. Complete (record { inputs = inputs; expr = tree }))
-    (expression_line tokens)
+    (expression_line zones tokens)
 
 -- the stage after a line with these tokens, none where the line is bad
 abbrev pub stage_after : Stage → List (List ℕ) → Option Stage
 stage_after stage [] = Some stage
-stage_after (Columns inputs) (word ∷ tokens) =
-    if bytes_eq word (codes "col") then with_column inputs tokens
-    else if bytes_eq word (codes "expr") then with_expression inputs tokens else None
+stage_after (Columns zones inputs) (word ∷ tokens) =
+    if bytes_eq word (codes "zone") then with_zone zones inputs tokens
+    else if bytes_eq word (codes "col") then with_column zones inputs tokens
+    else if bytes_eq word (codes "expr") then with_expression zones inputs tokens else None
 stage_after (Complete script) (word ∷ tokens) = None
 
 -- how many columns the stage has read
 abbrev pub column_count : Stage → ℕ
-column_count (Columns inputs) = length inputs
+column_count (Columns zones inputs) = length inputs
 column_count (Complete script) = length script.inputs
 
 -- the number of the next line, which stays where this one is bad
@@ -44,7 +64,7 @@ number_after number (Some stage) = number + 1
 -- the script at the end of the lines; without an expression the line behind the last one is bad
 abbrev pub finished : ℕ → Stage → Result Script ℕ
 finished number (Complete script) = Ok script
-finished number (Columns inputs) = Err number
+finished number (Columns zones inputs) = Err number
 
 -- the script of the lines from this number on, or the number of the first bad line
 abbrev pub script_from : ℕ → Option Stage → List (List ℕ) → Result Script ℕ
@@ -56,7 +76,7 @@ script_from number (Some stage) (line ∷ lines) =
 
 -- the script that the bytes are, or the number of its first bad line
 abbrev pub script_of : List ℕ → Result Script ℕ
-script_of bytes = script_from 1 (Some (Columns [])) (lines_of bytes)
+script_of bytes = script_from 1 (Some (Columns [] [])) (lines_of bytes)
 
 -- the answer is the script or the bad line that is expected, unless memory is wanting
 abbrev pub Reads : Result Script ReadError → Result Script ℕ → Type 0

@@ -7,11 +7,8 @@ use Rattle.col_types.specs.declared.data_type.DataType.{DataType}
 use Rattle.col_model.specs.Column.{Column}
 use Rattle.col_model.specs.ColumnCalls.{column_of}
 use Rattle.col_text.specs.Numbers.{integer_of}
-use Rattle.col_text.specs.Types.{dtype_named}
-
--- a visible byte of ASCII, from `!` to `~`
-abbrev pub is_graphic : ℕ → Bool
-is_graphic byte = nat_le 33 byte && nat_le byte 126
+use Rattle.col_text.specs.Parts.{is_graphic}
+use Rattle.col_text.specs.Types.{column_dtype}
 
 -- a name has 1 to 64 visible bytes
 abbrev pub is_name : List ℕ → Bool
@@ -48,9 +45,9 @@ abbrev pub column_with : List ℕ → List (List ℕ) → DataType → Option Co
 column_with name slots dtype =
     option_and_then (λ values. result_ok (column_of name dtype values)) (slots_of slots)
 
--- the column that stands behind `col`: a name, a type, and slots
-abbrev pub column_line : List (List ℕ) → Option Column
-column_line (name ∷ (dtype ∷ slots)) =
-    if is_name name then option_and_then (column_with name slots) (dtype_named dtype)
+-- the column that stands behind `col`, with the zones handed in before: a name, a type, and slots
+abbrev pub column_line : List (List ℕ) → List (List ℕ) → Option Column
+column_line zones (name ∷ (dtype ∷ slots)) =
+    if is_name name then option_and_then (column_with name slots) (column_dtype zones dtype)
     else None
-column_line _ = None
+column_line zones _ = None
