@@ -11,3 +11,4 @@ pub mod ScalarTable
 pub mod ColumnCalls
 pub mod OperatorCalls
 pub mod Laws
+pub mod UnitLaws

@@ -1,7 +1,10 @@
 // Laws above the definitions. Each function does nothing: its contract is the law.
 ghost use Rattle.std.specs.Prelude.{ℕ, ℤ, ◌<◌};
 ghost use Rattle.col_model.specs.Laws.{RoundsDown, RoundsTowardsZero};
-ghost use Rattle.col_model.specs.Laws.{KnownDatetimes, KnownDurations};
+ghost use Rattle.col_types.specs.declared.data_type.DataType.{Duration};
+ghost use Rattle.col_model.specs.Laws.{KnownDatetimes, KnownDurations, KnownCasts, KnownJoins};
+ghost use Rattle.col_model.specs.UnitLaws.{ComesBack, IsOneCast, is_no_coarser, is_no_finer};
+ghost use Rattle.col_model.specs.UnitLaws.{moments, clock_unit};
 
 /// The quotient by a positive number, rounded down, is the greatest whose multiple isn't above.
 pub fn floor_rounds_down()
@@ -21,4 +24,29 @@ pub fn known_datetimes()
 /// Lengths of time in other units, by hand.
 pub fn known_durations()
     ensures values { KnownDurations }
+{}
+
+/// Dates, times and lengths from moments, by hand.
+pub fn known_casts()
+    ensures values { KnownCasts }
+{}
+
+/// Sums, differences and rests, by hand.
+pub fn known_joins()
+    ensures values { KnownJoins }
+{}
+
+/// A slot that a cast to a finer unit leaves valid comes back as it was.
+pub fn finer_and_back()
+    ensures moments { ComesBack moments clock_unit }
+    ensures lengths { ComesBack Duration (λ unit. unit) }
+{}
+
+/// A chain of casts between units of which none is coarser, or of which none is finer, is the one
+/// cast from the first type to the last.
+pub fn unit_casts_compose()
+    ensures finer_moments { IsOneCast moments clock_unit is_no_coarser }
+    ensures finer_lengths { IsOneCast Duration (λ unit. unit) is_no_coarser }
+    ensures coarser_moments { IsOneCast moments clock_unit is_no_finer }
+    ensures coarser_lengths { IsOneCast Duration (λ unit. unit) is_no_finer }
 {}

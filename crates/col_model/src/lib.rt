@@ -5,7 +5,10 @@ mod laws;
 mod ticks;
 
 pub use col_types::TimeUnit;
-pub use laws::{floor_rounds_down, known_datetimes, known_durations, trunc_rounds_towards_zero};
+pub use laws::{
+    finer_and_back, floor_rounds_down, known_casts, known_datetimes, known_durations, known_joins,
+    trunc_rounds_towards_zero, unit_casts_compose,
+};
 pub use ticks::{
     UnitChange, datetime_by, datetime_in_unit, duration_by, duration_in_unit, unit_change,
 };
