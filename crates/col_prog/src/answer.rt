@@ -18,18 +18,23 @@ use std::alloc::{AllocError, Global};
 use std::sync::ledger::Ledger;
 
 const HELP: &str = "\
-tizlumed answers one expression over columns of moments and lengths of time.\n\
+tizlumed answers one expression over columns of dates, times, moments and lengths.\n\
 \n\
 usage: tizlumed eval < SCRIPT\n\
 \x20      tizlumed --help\n\
 \x20      tizlumed --version\n\
 \n\
-A script has any number of lines `col NAME TYPE SLOT ..`, and then one line\n\
-`expr TOKEN ..` in postfix order: `$N` is column N, `cast:TYPE` casts.\n\
-A TYPE is datetime[UNIT] or duration[UNIT], a UNIT is ns, us or ms.\n\
-A SLOT is `null` or an integer.\n";
+A script has any number of lines `zone NAME` and `col NAME TYPE SLOT ..`, and then one\n\
+line `expr TOKEN ..` in postfix order. A SLOT is `null` or an integer. A TYPE is date, time,\n\
+datetime[UNIT], datetime[UNIT,ZONE] or duration[UNIT], a UNIT ns, us or ms. A TOKEN is\n\
+\x20 $N             column N, from 0\n\
+\x20 cast:TYPE      a cast; cast!:TYPE refuses to lose a slot, cast~:TYPE wraps a day\n\
+\x20 +, -, *, /, %  the two operands before it\n\
+\x20 +#K, K#+       an operand and an integer, so with each operator; also tdiv#K\n\
+\x20 unit:UNIT      another unit, wrapped\n\
+\x20 shift:P        each slot P rows further down\n";
 
-const VERSION: &str = "tizlumed 0.1.0\n";
+const VERSION: &str = "tizlumed 0.2.0\n";
 
 /// A whole text, and the status that tells it.
 #[derive(Drop)]
