@@ -4,7 +4,8 @@
     make_script.py FOLDER
 
 `long` has 760,000 slots of mostly 19 digits, `short` 4,000,000 slots of one or
-two digits in chunks. Each is one column and one cast.
+two digits in chunks. Each is one column and one cast. `sum` has 600,000 moments
+and lengths of time, which are added and cast to days.
 """
 
 import os
@@ -50,8 +51,24 @@ def short_slots(count):
             yield "|"
 
 
-def write_script(path, dtype, slots, target):
-    text = f"col a {dtype} {' '.join(slots)}\nexpr $0 cast:{target}\n"
+def moments(count):
+    """Microseconds of 16 digits, one slot in sixteen null."""
+    draw = numbers(3)
+    for _ in range(count):
+        number = next(draw)
+        yield "null" if number % 16 == 15 else str(10**15 + number % 10**15)
+
+
+def lengths(count):
+    """Milliseconds of half a day at most, of up to eight digits."""
+    draw = numbers(4)
+    for _ in range(count):
+        yield str(next(draw) % 43_200_000)
+
+
+def write_script(path, columns, expression):
+    lines = [f"col {name} {dtype} {' '.join(slots)}\n" for name, dtype, slots in columns]
+    text = "".join(lines) + f"expr {expression}\n"
     assert len(text) < MAX_SCRIPT, f"{path} has {len(text)} bytes"
     with open(path, "w", encoding="ascii", newline="\n") as script:
         script.write(text)
@@ -60,10 +77,19 @@ def write_script(path, dtype, slots, target):
 def main():
     folder = sys.argv[1]
     os.makedirs(folder, exist_ok=True)
-    long_path = os.path.join(folder, "long")
-    short_path = os.path.join(folder, "short")
-    write_script(long_path, "datetime[ns]", long_slots(760_000), "datetime[ms]")
-    write_script(short_path, "datetime[ms]", short_slots(4_000_000), "datetime[us]")
+    scripts = {
+        "long": ([("a", "datetime[ns]", long_slots(760_000))], "$0 cast:datetime[ms]"),
+        "short": ([("a", "datetime[ms]", short_slots(4_000_000))], "$0 cast:datetime[us]"),
+        "sum": (
+            [
+                ("start", "datetime[us]", moments(600_000)),
+                ("length", "duration[ms]", lengths(600_000)),
+            ],
+            "$0 $1 + cast:date",
+        ),
+    }
+    for name, (columns, expression) in scripts.items():
+        write_script(os.path.join(folder, name), columns, expression)
 
 
 if __name__ == "__main__":

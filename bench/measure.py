@@ -14,7 +14,7 @@ import sys
 import time
 
 # A script, and the most that the program may take of its peer's time.
-TARGETS = (("long", 2.5), ("short", 4.0))
+TARGETS = (("long", 2.5), ("short", 4.0), ("sum", 4.0))
 MOST_RESIDENT_MB = 400
 # Linux counts the resident size in units of 1024 bytes.
 RESIDENT_UNIT = 1024
@@ -75,7 +75,7 @@ def main():
             f"{resident['program']:.0f} MB resident (at most {MOST_RESIDENT_MB}; "
             f"its peer {resident['peer']:.0f}): {'met' if is_met else 'MISSED'}"
         )
-    print("both answers are byte for byte those of the peer")
+    print("all answers are byte for byte those of the peer")
     sys.exit(1 if missed else 0)
 
 

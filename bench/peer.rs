@@ -1,15 +1,12 @@
-//! The peer of the benchmark: plain Rust that reads a script with columns of
-//! ticks and one cast of the first of them, and writes the answer.
+//! The peer of the benchmark: plain Rust that reads a script with columns of days, moments and lengths of
+//! time, evaluates an expression of columns, casts and sums, and writes the answer.
 
 use std::fmt::Write as _;
 use std::io::{self, Read, Write};
 use std::process::ExitCode;
+use std::rc::Rc;
 
-#[derive(Clone, Copy, PartialEq)]
-enum Kind {
-    Datetime,
-    Duration,
-}
+const DAY_NANOS: i64 = 86_400_000_000_000;
 
 #[derive(Clone, Copy, PartialEq)]
 enum Unit {
@@ -18,16 +15,24 @@ enum Unit {
     Milliseconds,
 }
 
-#[derive(Clone, Copy)]
-struct Type {
-    kind: Kind,
-    unit: Unit,
+#[derive(Clone, Copy, PartialEq)]
+enum Type {
+    Date,
+    Datetime(Unit),
+    Duration(Unit),
 }
 
+#[derive(Clone)]
 struct Column {
-    name: String,
+    name: Rc<str>,
     dtype: Type,
-    slots: Vec<Option<i64>>,
+    slots: Rc<Vec<Option<i64>>>,
+}
+
+enum Node {
+    Input(usize),
+    Cast(Type),
+    Add,
 }
 
 impl Unit {
@@ -46,23 +51,58 @@ impl Unit {
             Unit::Milliseconds => "ms",
         }
     }
+
+    fn coarser(self, other: Unit) -> Unit {
+        if self.nanoseconds() < other.nanoseconds() { other } else { self }
+    }
+
+    /// A tick of this unit in another: `floors` says how a coarser one rounds.
+    fn change(self, to: Unit, floors: bool) -> impl Fn(i64) -> Option<i64> {
+        let (from, to) = (self.nanoseconds(), to.nanoseconds());
+        move |tick: i64| {
+            if from >= to {
+                tick.checked_mul(from / to)
+            } else if floors {
+                Some(tick.div_euclid(to / from))
+            } else {
+                Some(tick / (to / from))
+            }
+        }
+    }
 }
 
 impl Type {
     fn parse(text: &str) -> Option<Type> {
+        if text == "date" {
+            return Some(Type::Date);
+        }
         let (kind, rest) = text.split_once('[')?;
-        let kind = match kind {
-            "datetime" => Kind::Datetime,
-            "duration" => Kind::Duration,
-            _ => return None,
-        };
         let unit = match rest {
             "ns]" => Unit::Nanoseconds,
             "us]" => Unit::Microseconds,
             "ms]" => Unit::Milliseconds,
             _ => return None,
         };
-        Some(Type { kind, unit })
+        match kind {
+            "datetime" => Some(Type::Datetime(unit)),
+            "duration" => Some(Type::Duration(unit)),
+            _ => None,
+        }
+    }
+
+    fn text(self) -> String {
+        match self {
+            Type::Date => "date".to_string(),
+            Type::Datetime(unit) => format!("datetime[{}]", unit.name()),
+            Type::Duration(unit) => format!("duration[{}]", unit.name()),
+        }
+    }
+
+    fn holds(self, value: i128) -> bool {
+        match self {
+            Type::Date => i32::try_from(value).is_ok(),
+            _ => i64::try_from(value).is_ok(),
+        }
     }
 }
 
@@ -80,49 +120,67 @@ impl Column {
                 "null" => slots.push(None),
                 _ => {
                     let value: i128 = token.parse().ok()?;
-                    slots.push(Some(i64::try_from(value).ok()?));
+                    if !dtype.holds(value) {
+                        return None;
+                    }
+                    slots.push(Some(value as i64));
                 }
             }
         }
         Some(Column {
-            name: name.to_string(),
+            name: name.into(),
             dtype,
-            slots,
+            slots: Rc::new(slots),
         })
     }
 
-    /// None where the kinds differ and a slot is valid.
+    fn map(&self, dtype: Type, change: impl Fn(i64) -> Option<i64>) -> Column {
+        Column {
+            name: self.name.clone(),
+            dtype,
+            slots: Rc::new(self.slots.iter().map(|slot| slot.and_then(&change)).collect()),
+        }
+    }
+
+    /// None where there is no such cast and a slot is valid.
     fn cast(&self, target: Type) -> Option<Column> {
-        let from = self.dtype.unit.nanoseconds();
-        let to = target.unit.nanoseconds();
-        if self.dtype.kind != target.kind && self.slots.iter().any(|slot| slot.is_some()) {
+        match (self.dtype, target) {
+            (Type::Datetime(from), Type::Datetime(to)) => Some(self.map(target, from.change(to, true))),
+            (Type::Duration(from), Type::Duration(to)) => Some(self.map(target, from.change(to, false))),
+            (Type::Datetime(from), Type::Date) => {
+                let day = DAY_NANOS / from.nanoseconds();
+                let date = |tick: i64| i32::try_from(tick.div_euclid(day)).ok().map(i64::from);
+                Some(self.map(target, date))
+            }
+            (Type::Date, Type::Date) => Some(self.clone()),
+            _ if self.slots.iter().all(|slot| slot.is_none()) => Some(self.map(target, Some)),
+            _ => None,
+        }
+    }
+
+    /// A moment and a length of time; None for other types and for lengths that differ.
+    fn add(&self, other: &Column) -> Option<Column> {
+        let (Type::Datetime(u), Type::Duration(v)) = (self.dtype, other.dtype) else {
+            return None;
+        };
+        if self.slots.len() != other.slots.len() {
             return None;
         }
-        let change = |tick: i64| {
-            if from >= to {
-                tick.checked_mul(from / to)
-            } else if target.kind == Kind::Datetime {
-                Some(tick.div_euclid(to / from))
-            } else {
-                Some(tick / (to / from))
-            }
-        };
+        let unit = u.coarser(v);
+        let (moment, length) = (u.change(unit, true), v.change(unit, false));
+        let slots = self.slots.iter().zip(other.slots.iter());
+        let sum = slots.map(|(x, y)| Some(moment((*x)?)?.wrapping_add(length((*y)?)?)));
         Some(Column {
             name: self.name.clone(),
-            dtype: target,
-            slots: self.slots.iter().map(|slot| slot.and_then(change)).collect(),
+            dtype: Type::Datetime(unit),
+            slots: Rc::new(sum.collect()),
         })
     }
 
     fn text(&self) -> String {
-        let kind = match self.dtype.kind {
-            Kind::Datetime => "datetime",
-            Kind::Duration => "duration",
-        };
-        let unit = self.dtype.unit.name();
         let mut text = String::new();
-        writeln!(text, "{} {kind}[{unit}] {}", self.name, self.slots.len()).unwrap();
-        for slot in &self.slots {
+        writeln!(text, "{} {} {}", self.name, self.dtype.text(), self.slots.len()).unwrap();
+        for slot in self.slots.iter() {
             match slot {
                 Some(tick) => writeln!(text, "{tick}").unwrap(),
                 None => text.push_str("null\n"),
@@ -132,21 +190,22 @@ impl Column {
     }
 }
 
-fn target<'a>(mut tokens: impl Iterator<Item = &'a str>) -> Option<Type> {
-    if tokens.next()? != "$0" {
-        return None;
-    }
-    let target = Type::parse(tokens.next()?.strip_prefix("cast:")?)?;
-    match tokens.next() {
-        None => Some(target),
-        Some(_) => None,
-    }
+fn nodes<'a>(tokens: impl Iterator<Item = &'a str>) -> Option<Vec<Node>> {
+    tokens
+        .map(|token| match token {
+            "+" => Some(Node::Add),
+            _ => match token.strip_prefix('$') {
+                Some(number) => number.parse().ok().map(Node::Input),
+                None => Type::parse(token.strip_prefix("cast:")?).map(Node::Cast),
+            },
+        })
+        .collect()
 }
 
-/// The first column and the type that it is cast to, or the number of the bad line.
-fn read(script: &[u8]) -> Result<(Column, Type), usize> {
+/// The columns and the expression, or the number of the bad line.
+fn read(script: &[u8]) -> Result<(Vec<Column>, Vec<Node>), usize> {
     let mut columns: Vec<Column> = Vec::new();
-    let mut cast = None;
+    let mut expression = None;
     let mut number = 0;
     for line in script.split_inclusive(|b| *b == b'\n') {
         number += 1;
@@ -156,28 +215,45 @@ fn read(script: &[u8]) -> Result<(Column, Type), usize> {
         let mut tokens = line.split([' ', '\t']).filter(|token| !token.is_empty());
         match tokens.next() {
             None => {}
-            Some("col") if cast.is_none() => {
+            Some("col") if expression.is_none() => {
                 columns.push(Column::parse(tokens).ok_or(number)?);
             }
-            Some("expr") if cast.is_none() && !columns.is_empty() => {
-                cast = Some(target(tokens).ok_or(number)?);
+            Some("expr") if expression.is_none() => {
+                expression = Some(nodes(tokens).ok_or(number)?);
             }
             Some(_) => return Err(number),
         }
     }
-    match cast {
-        Some(cast) => Ok((columns.swap_remove(0), cast)),
+    match expression {
+        Some(expression) => Ok((columns, expression)),
         None => Err(number + 1),
     }
+}
+
+/// The column of the expression; the scripts of the benchmark refuse none.
+fn evaluate(columns: &[Column], expression: &[Node]) -> Option<Column> {
+    let mut stack: Vec<Column> = Vec::new();
+    for node in expression {
+        let column = match node {
+            Node::Input(index) => columns.get(*index)?.clone(),
+            Node::Cast(target) => stack.pop()?.cast(*target)?,
+            Node::Add => {
+                let right = stack.pop()?;
+                stack.pop()?.add(&right)?
+            }
+        };
+        stack.push(column);
+    }
+    stack.pop()
 }
 
 fn main() -> ExitCode {
     let mut script = Vec::new();
     io::stdin().read_to_end(&mut script).unwrap();
     let (text, code) = match read(&script) {
-        Ok((column, cast)) => match column.cast(cast) {
+        Ok((columns, expression)) => match evaluate(&columns, &expression) {
             Some(answer) => (answer.text(), 0),
-            None => ("refused 1 unsupported\n".to_string(), 1),
+            None => ("refused\n".to_string(), 1),
         },
         Err(line) => (format!("bad line {line}\n"), 2),
     };
