@@ -1,2 +1,3 @@
-pub mod UnitLemmas
 pub mod ChainLemmas
+pub mod UnitLemmas
+pub mod WrapLemmas

@@ -10,7 +10,9 @@ pub use laws::{
     trunc_rounds_towards_zero, unit_casts_compose,
 };
 pub use ticks::{
-    UnitChange, datetime_by, datetime_in_unit, duration_by, duration_in_unit, unit_change,
+    UnitChange, datetime_by, datetime_in_unit, day_in_unit, day_of, duration_by, duration_in_unit,
+    fitting_day, ticks_per_day, time_of, unit_change, wrapped_datetime_by, wrapped_day,
+    wrapped_duration_by,
 };
 
 #[cfg(test)]
