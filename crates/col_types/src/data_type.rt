@@ -144,7 +144,7 @@ fn same_unit(left: TimeUnit, right: TimeUnit) -> bool
     left.nanos_per_tick() == right.nanos_per_tick()
 }
 
-fn same_zone(left: &Option<TimeZone>, right: &Option<TimeZone>) -> bool
+pub(crate) fn same_zone(left: &Option<TimeZone>, right: &Option<TimeZone>) -> bool
     ensures same { result ≡ same_zone left.now right.now }
 {
     match (left, right) {
