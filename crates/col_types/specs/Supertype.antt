@@ -1,8 +1,12 @@
 -- The least type that has the values of two types.
-use Rattle.std.specs.Prelude.{ℕ, ◌==◌, max, if◌then◌else◌, Option, Some, None}
+use Rattle.std.specs.Prelude.{ℕ, ◌==◌, max, if◌then◌else◌, Option, Some, None, option_map, Result}
+use Rattle.std.specs.Option.{ok_or}
+use Rattle.col_types.specs.declared.error.PolarsError.{PolarsError}
+use Rattle.col_types.specs.declared.error.PolarsError.TheVariants.{Types}
+use Rattle.col_types.specs.declared.operator.OpName.TheVariants.{Supertype}
 use Rattle.col_types.specs.declared.data_type.DataType.{DataType, Int8, Int16, Int32, Int64, Int128, UInt8, UInt16, UInt32, UInt64, Boolean, Date, Datetime, Duration, Decimal}
 use Rattle.col_types.specs.TimeUnit.{coarser_unit}
-use Rattle.col_types.specs.DataType.{is_integer, same_zone, same_type}
+use Rattle.col_types.specs.DataType.{kind_of, is_integer, shape_of, same_zone, same_type}
 
 -- The larger number where both are set, else none.
 abbrev pub larger_of_both : Option ℕ → Option ℕ → Option ℕ
@@ -61,6 +65,15 @@ small_supertype left right = type_of_bits
 abbrev pub with_integer : DataType → DataType → Option DataType
 with_integer other answer = if is_integer other then Some answer else None
 
+-- The supertype of an integer and an integer or a boolean.
+abbrev pub integer_supertype : DataType → DataType → Option DataType
+integer_supertype left right =
+    if same_type left Boolean then with_integer right right
+    else (if same_type right Boolean then with_integer left left
+    else (if same_type left Int128 then with_integer right Int128
+    else (if same_type right Int128 then with_integer left Int128
+    else small_supertype left right)))
+
 -- The supertype of two types that differ.
 abbrev pub mixed_supertype : DataType → DataType → Option DataType
 mixed_supertype Date (Datetime unit name) = Some (Datetime unit name)
@@ -70,12 +83,15 @@ mixed_supertype (Datetime u y) (Datetime v z) =
 mixed_supertype (Duration u) (Duration v) = Some (Duration (coarser_unit u v))
 mixed_supertype (Decimal p s) (Decimal q t) =
     Some (Decimal (larger_of_both p q) (larger_of_both s t))
-mixed_supertype Boolean other = with_integer other other
-mixed_supertype other Boolean = with_integer other other
-mixed_supertype Int128 other = with_integer other Int128
-mixed_supertype other Int128 = with_integer other Int128
-mixed_supertype left right = small_supertype left right
+mixed_supertype left right = integer_supertype left right
 
 -- The supertype: equal types give themselves.
 abbrev pub supertype_of : DataType → DataType → Option DataType
 supertype_of left right = if same_type left right then Some left else mixed_supertype left right
+
+-- The supertype without the places of its boxes, where there is one, and else the refusal, which
+-- tells both types.
+abbrev pub supertype_answer : DataType → DataType → Result DataType PolarsError
+supertype_answer left right =
+    ok_or (option_map shape_of (supertype_of left right))
+    (Types Supertype (kind_of left) (kind_of right))

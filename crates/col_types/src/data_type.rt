@@ -1,6 +1,7 @@
 // The types of columns.
 ghost use Rattle.std.specs.Prelude.{◌≡◌, false};
-ghost use Rattle.col_types.specs.DataType.{kind_of, is_nested, same_type, same_unit, same_zone, same_number};
+ghost use Rattle.col_types.specs.DataType.{kind_of, is_nested};
+ghost use Rattle.col_types.specs.DataType.{same_type, same_unit, same_zone, same_number};
 
 use crate::{TimeUnit, TimeZone};
 

@@ -1,12 +1,11 @@
 // The least type that has the values of two types.
-ghost use Rattle.std.specs.Prelude.{◌≡◌, false, option_map};
-ghost use Rattle.std.specs.Option.{ok_or};
-ghost use Rattle.col_types.specs.declared.error.PolarsError.TheVariants.{Types};
-ghost use Rattle.col_types.specs.declared.operator.OpName.TheVariants.{Supertype};
+ghost use Rattle.std.specs.Prelude.{◌≡◌, false};
 ghost use Rattle.col_types.specs.PolarsError.{GivesBy};
-ghost use Rattle.col_types.specs.DataType.{is_nested, shape_of, kind_of};
-ghost use Rattle.col_types.specs.Supertype.{larger_of_both, signed_bits, unsigned_bits, signed_type, unsigned_type};
-ghost use Rattle.col_types.specs.Supertype.{small_supertype, with_integer, mixed_supertype, supertype_of};
+ghost use Rattle.col_types.specs.DataType.{is_nested, shape_of};
+ghost use Rattle.col_types.specs.Supertype.{supertype_of, supertype_answer, mixed_supertype};
+ghost use Rattle.col_types.specs.Supertype.{integer_supertype, with_integer, small_supertype};
+ghost use Rattle.col_types.specs.Supertype.{larger_of_both, signed_bits, unsigned_bits};
+ghost use Rattle.col_types.specs.Supertype.{signed_type, unsigned_type};
 
 use crate::data_type::same_zone;
 use crate::{DataType, OpName, PolarsError, PolarsResult, get_time_units};
@@ -14,7 +13,7 @@ use std::alloc::Global;
 
 /// The least type that has the values of both. Types that have none are refused.
 pub fn try_get_supertype(alloc: Global, left: &DataType, right: &DataType) -> PolarsResult<DataType>
-    ensures dtype { GivesBy shape_of result (ok_or (option_map shape_of (supertype_of left.now right.now)) (Types Supertype (kind_of left.now) (kind_of right.now))) }
+    ensures dtype { GivesBy shape_of result (supertype_answer left.now right.now) }
 {
     if left.is_same(right) {
         return left.try_clone(alloc);
@@ -31,7 +30,8 @@ pub fn try_get_supertype(alloc: Global, left: &DataType, right: &DataType) -> Po
 
 /// The least type that has the values of both, of types that aren't nested. It takes no memory.
 pub fn flat_supertype(left: &DataType, right: &DataType) -> Option<DataType>
-    requires flat { (is_nested left.now ≡ false) × (is_nested right.now ≡ false) }
+    requires left { is_nested left.now ≡ false }
+    requires right { is_nested right.now ≡ false }
     ensures dtype { result ≡ supertype_of left.now right.now }
 {
     if left.is_same(right) {
@@ -47,7 +47,9 @@ fn mixed_supertype(left: &DataType, right: &DataType) -> Option<DataType>
 {
     match (left, right) {
         (DataType::Date, DataType::Datetime(unit, zone))
-        | (DataType::Datetime(unit, zone), DataType::Date) => Some(DataType::Datetime(*unit, *zone)),
+        | (DataType::Datetime(unit, zone), DataType::Date) => Some(DataType::Datetime(
+            *unit, *zone,
+        )),
         (DataType::Datetime(u, y), DataType::Datetime(v, z)) => {
             if same_zone(y, z) {
                 Some(DataType::Datetime(get_time_units(*u, *v), *y))
@@ -61,9 +63,24 @@ fn mixed_supertype(left: &DataType, right: &DataType) -> Option<DataType>
         (DataType::Decimal(p, s), DataType::Decimal(q, t)) => {
             Some(DataType::Decimal(larger_of_both(*p, *q), larger_of_both(*s, *t)))
         }
-        (DataType::Boolean, other) | (other, DataType::Boolean) => integer(other),
-        (DataType::Int128, other) | (other, DataType::Int128) => with_integer(other, DataType::Int128),
-        _ => small_supertype(left, right),
+        _ => integer_supertype(left, right),
+    }
+}
+
+// The supertype of an integer and an integer or a boolean.
+fn integer_supertype(left: &DataType, right: &DataType) -> Option<DataType>
+    ensures dtype { result ≡ integer_supertype left.now right.now }
+{
+    if left.is_same(&DataType::Boolean) {
+        integer(right)
+    } else if right.is_same(&DataType::Boolean) {
+        integer(left)
+    } else if left.is_same(&DataType::Int128) {
+        with_integer(right, DataType::Int128)
+    } else if right.is_same(&DataType::Int128) {
+        with_integer(left, DataType::Int128)
+    } else {
+        small_supertype(left, right)
     }
 }
 
