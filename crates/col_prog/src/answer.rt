@@ -74,9 +74,16 @@ pub(crate) fn answer_to<S: Source, L: Ledger>(
             let bytes = read_all(alloc, source)?;
             Ok(answer_to_script(alloc, &bytes, steps)?)
         }
-        Command::Help => Ok(told(alloc, HELP)?),
+        Command::Help => Ok(help(alloc)?),
         Command::Version => Ok(told(alloc, VERSION)?),
     }
+}
+
+fn help(alloc: Global) -> Result<Answer, AllocError>
+    ensures text { IfOk result (λ a. a.text.items ≡ help_text) }
+    ensures status { IfOk result (λ a. a.status ≡ Status.Done) }
+{
+    told(alloc, HELP)
 }
 
 fn told(alloc: Global, text: &str) -> Result<Answer, AllocError>
