@@ -1,5 +1,5 @@
 -- A set of shared texts, seen as the names of zones.
-use Rattle.std.specs.Prelude.{◌≡◌, ◌≤◌, ◌-◌, ◌||◌, drop, replicate, ℕ, true, List, [], ◌∷◌, length, map, refl}
+use Rattle.std.specs.Prelude.{◌≡◌, ◌≤◌, ◌-◌, ◌||◌, drop, replicate, ℕ, Bool, true, false, List, [], ◌∷◌, length, map, refl}
 use Rattle.std.proofs.Common.{ap, ap₂, ◌∙◌, sym, subst, ◌⊎◌, inl, inr, ⊎_elim, Ordering, Less, Equal, Greater, nat_cmp}
 use Rattle.std.proofs.lemmas.List.{drop-replicate}
 use Rattle.std.proofs.lemmas.Bool.{or_cases, or_left, or_right}
@@ -10,7 +10,7 @@ use Rattle.std.specs.declared.rc.RcStr.{RcStr}
 use Rattle.std.specs.Rc.{rc_str_bytes}
 use Rattle.std.specs.Str.{bytes_eq}
 use Rattle.std.specs.List.{list_any}
-use Rattle.std.specs.Ordering.{match_ordering}
+use Rattle.std.specs.Ordering.{is_eq, match_ordering}
 use Rattle.std.specs.Cmp.Lexicographic.{slice_cmp}
 use Rattle.std.specs.BTreeMap.{is_at}
 use Rattle.std.specs.BTreeSet.{insert_key}
@@ -47,30 +47,44 @@ insert_key-with_name (x ∷ xs) key =
     more_names (text_cmp key x) key x xs (insert_key text_cmp xs key) (with_name (names_of xs) (rc_str_bytes key))
     (insert_key-with_name xs key)
 
-one_of : (o : Ordering) (name x q : List ℕ) (xs ys : List (List ℕ))
-    → (has_name ys q ≡ true → (bytes_eq q name ≡ true) ⊎ (has_name xs q ≡ true))
-    → has_name (match_ordering o (name ∷ x ∷ xs) (x ∷ xs) (x ∷ ys)) q ≡ true
-    → (bytes_eq q name ≡ true) ⊎ (has_name (x ∷ xs) q ≡ true)
-one_of Less name x q xs ys h e = or_cases (bytes_eq q name) (has_name (x ∷ xs) q) e
-one_of Equal name x q xs ys h e = inr e
-one_of Greater name x q xs ys h e =
-    ⊎_elim (λ here. inr (or_left (bytes_eq q x) (has_name xs q) here))
-    (λ there. ⊎_elim inl (λ old. inr (or_right (bytes_eq q x) (has_name xs q) old)) (h there))
-    (or_cases (bytes_eq q x) (has_name ys q) e)
+twice : (a b : Bool) → (a || b) ≡ (a || (a || b))
+twice true b = refl
+twice false b = refl
 
--- One of the names with one more is the new one, or was among them.
-has_name-with_name : (names : List (List ℕ)) (name q : List ℕ) → has_name (with_name names name) q ≡ true
-    → (bytes_eq q name ≡ true) ⊎ (has_name names q ≡ true)
-has_name-with_name [] name q e = or_cases (bytes_eq q name) (has_name [] q) e
-has_name-with_name (x ∷ xs) name q e =
-    one_of (slice_cmp nat_cmp name x) name x q xs (with_name xs name) (has_name-with_name xs name q) e
+swapped : (a b c : Bool) → (a || (b || c)) ≡ (b || (a || c))
+swapped true true c = refl
+swapped true false c = refl
+swapped false true c = refl
+swapped false false c = refl
+
+tied : (xs ys : List ℕ) → slice_cmp nat_cmp xs ys ≡ Equal → xs ≡ ys
+tied xs ys e = (bytes_eq-Decides xs ys).0 (sym (is_eq-slice_cmp xs ys) ∙ ap is_eq e)
+
+has_more : (o : Ordering) (name x q : List ℕ) (xs ys : List (List ℕ)) → slice_cmp nat_cmp name x ≡ o
+    → has_name ys q ≡ (bytes_eq q name || has_name xs q)
+    → has_name (match_ordering o (name ∷ x ∷ xs) (x ∷ xs) (x ∷ ys)) q
+    ≡ (bytes_eq q name || has_name (x ∷ xs) q)
+has_more Less name x q xs ys e h = refl
+has_more Equal name x q xs ys e h =
+    subst (λ n. has_name (x ∷ xs) q ≡ (bytes_eq q n || has_name (x ∷ xs) q)) (sym (tied name x e))
+    (twice (bytes_eq q x) (has_name xs q))
+has_more Greater name x q xs ys e h =
+    ap (λ t. bytes_eq q x || t) h ∙ swapped (bytes_eq q x) (bytes_eq q name) (has_name xs q)
+
+-- The names with one more are the new one and those that were there.
+pub has_name-with_name : (names : List (List ℕ)) (name q : List ℕ)
+    → has_name (with_name names name) q ≡ (bytes_eq q name || has_name names q)
+has_name-with_name [] name q = refl
+has_name-with_name (x ∷ xs) name q =
+    has_more (slice_cmp nat_cmp name x) name x q xs (with_name xs name) refl
+    (has_name-with_name xs name q)
 
 -- Names stay short with a short one more.
 pub AreShort-with_name : (names : List (List ℕ)) (name : List ℕ) → AreShort names → length name ≤ 64
     → AreShort (with_name names name)
 AreShort-with_name names name old short = λ q e.
     ⊎_elim (λ new. subst (λ l. length l ≤ 64) (sym ((bytes_eq-Decides q name).0 new)) short) (old q)
-    (has_name-with_name names name q e)
+    (or_cases (bytes_eq q name) (has_name names q) (sym (has_name-with_name names name q) ∙ e))
 
 -- The zeros that stand behind a name.
 pub zeros_left : (n m : ℕ) → drop {A = ℕ} n (replicate {A = ℕ} m 0) ≡ replicate {A = ℕ} (m - n) 0

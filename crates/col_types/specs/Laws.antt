@@ -1,15 +1,21 @@
 -- Laws above the definitions.
-use Rattle.std.specs.Prelude.{◌≡◌, ℕ, true, false, List, codes, Option, Some, Ok}
+use Rattle.std.specs.Prelude.{◌≡◌, ◌||◌, ℕ, true, false, List, codes, Option, Some, Ok}
 use Rattle.std.specs.Ordering.{nat_cmp}
+use Rattle.std.specs.Str.{bytes_eq}
 use Rattle.std.specs.declared.cmp.Ordering.{Ordering}
 use Rattle.col_types.specs.declared.time_unit.TimeUnit.{TimeUnit}
 use Rattle.col_types.specs.TimeUnit.{nanos_per_tick}
-use Rattle.col_types.specs.Zones.{opt_zone, eq_wildcard_aware}
+use Rattle.col_types.specs.Zones.{has_name, with_name, opt_zone, eq_wildcard_aware}
 
 -- Units stand in the order of the lengths of their ticks.
 abbrev pub OrdersByTick : (TimeUnit → TimeUnit → Option Ordering) → Type 0
 OrdersByTick order =
     (u v : TimeUnit) → order u v ≡ Some (nat_cmp (nanos_per_tick u) (nanos_per_tick v))
+
+-- The names with one more are the new one and those that were there.
+abbrev pub HasOneMore : List (List ℕ) → List ℕ → Type 0
+HasOneMore names name = (sought : List ℕ)
+    → has_name (with_name names name) sought ≡ (bytes_eq sought name || has_name names sought)
 
 -- With the same names, the name of a zone gives that zone again.
 abbrev pub GivesItselfAgain : List (List ℕ) → Option (List ℕ) → Type 0

@@ -6,7 +6,7 @@ ghost use Rattle.col_types.specs.declared.time_unit.TimeUnit.{TimeUnit};
 ghost use Rattle.col_types.specs.TimeUnit.{coarser_unit, to_arrow, from_arrow};
 ghost use Rattle.col_types.specs.IsSorted.{reversed};
 ghost use Rattle.col_types.specs.Zones.{opt_zone, eq_wildcard_aware, eq_none_as_utc};
-ghost use Rattle.col_types.specs.Laws.{OrdersByTick, GivesItselfAgain, WildcardJoinsWhatDiffers};
+ghost use Rattle.col_types.specs.Laws.{OrdersByTick, HasOneMore, GivesItselfAgain, WildcardJoinsWhatDiffers};
 
 use crate::TimeUnit;
 
@@ -24,6 +24,11 @@ pub fn units_are_ordered()
 pub fn units_translate()
     ensures back { (unit : TimeUnit) → from_arrow (to_arrow unit) ≡ unit }
     ensures coarser { (u v : TimeUnit) → coarser_unit u v ≡ coarser_unit v u }
+{}
+
+/// Of names with one more, those are had that were there, and the new one.
+pub fn names_are_kept()
+    ensures kept { (names : List (List ℕ)) (name : List ℕ) → HasOneMore names name }
 {}
 
 /// The name of a zone names that zone, and the empty text names none.
