@@ -4,7 +4,7 @@
 mod laws;
 mod ticks;
 
-pub use col_types::TimeUnit;
+pub use col_types::{CastOptions, TimeUnit};
 pub use laws::{
     finer_and_back, floor_rounds_down, known_casts, known_datetimes, known_durations, known_joins,
     trunc_rounds_towards_zero, unit_casts_compose,

@@ -7,13 +7,12 @@ ghost use Rattle.col_model.specs.Column.{is_built_type, day_values};
 ghost use Rattle.col_model.specs.ColumnCalls.{is_unfit, first_unfit};
 ghost use Rattle.col_series.specs.Slots.{is_tick_slot};
 
-use crate::DataType;
+use crate::{DataType, TimeUnit};
+use col_model::ticks_per_day;
 use std::alloc::{AllocError, Global};
 
 /// A column has fewer rows.
 pub(crate) const ROW_LIMIT: usize = 1 << 32;
-
-const NANOS_PER_DAY: i128 = 86_400_000_000_000;
 
 /// Whether the word of dates holds the value.
 fn is_day(value: i128) -> bool
@@ -33,7 +32,7 @@ fn is_tick(value: i128) -> bool
 fn is_time(value: i128) -> bool
     ensures within { result ≡ is_within day_values value }
 {
-    0 <= value && value < NANOS_PER_DAY
+    0 <= value && value < i128::from(ticks_per_day(TimeUnit::Nanoseconds))
 }
 
 /// Whether the slot may not stand in a column of the type.
