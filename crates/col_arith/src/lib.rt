@@ -1,0 +1,4 @@
+//! Arithmetic of temporal columns: operators, scalar forms and coercion.
+#![tactic(auto)]
+
+mod operators;
