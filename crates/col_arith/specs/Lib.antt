@@ -1,1 +1,2 @@
 pub mod OperatorRow
+pub mod Rows

@@ -1,5 +1,5 @@
 -- The rows of the operator table as the code keeps them.
-use Rattle.std.specs.Prelude.{◌≡◌, ◌<◌, ℕ, ℤ, Bool, true, Option, Some, None}
+use Rattle.std.specs.Prelude.{◌≡◌, ◌<◌, ◌^◌, ℕ, ℤ, Bool, true, Option, Some, None}
 use Rattle.std.specs.Int.{w32, w64}
 use Rattle.col_types.specs.TimeUnit.{ticks_per_day}
 use Rattle.col_types.specs.declared.time_unit.TimeUnit.TheVariants.{Milliseconds}
@@ -93,19 +93,20 @@ is_tick_in range (Some tick) = is_within range tick
 abbrev pub met_tick : OperatorRow → Option ℤ → Option ℤ → Option ℤ
 met_tick row left right = on_both (value_of (formula_of row)) left right
 
--- ---- divisors
+-- ---- factors
 
+-- a coarser unit's factor is not 0, and a day's ticks are one of 64 bits
 abbrev pub IsProperOperand : Operand → Type 0
 IsProperOperand (Moment change) = units.IsProper change
 IsProperOperand (Length change) = units.IsProper change
-IsProperOperand (Day ticks_of_it) = Unit {0}
+IsProperOperand (Day ticks_of_it) = ticks_of_it < 2 ^ 63
 
 -- a row divides by no zero but where the table says so
 abbrev pub IsProper : OperatorRow → Type 0
 IsProper DatesApart = Unit {0}
 IsProper TimesApart = Unit {0}
 IsProper (DateWith meeting change) = units.IsProper change
-IsProper (LengthThenDate day) = 0 < day
+IsProper (LengthThenDate day) = (1 < day) × (day < 2 ^ 63)
 IsProper (Ticks meeting left right) = IsProperOperand left × IsProperOperand right
 IsProper (Rest left right) = units.IsProper left × units.IsProper right
 

@@ -2,3 +2,5 @@
 #![tactic(auto)]
 
 mod operators;
+mod rows;
+mod ticks;
