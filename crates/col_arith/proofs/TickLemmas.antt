@@ -1,10 +1,10 @@
 -- Ticks of 64 bits: sums and differences wrapped, and formulas of one operand.
 use Rattle.std.specs.Prelude.{◌≡◌, ◌+ℤ◌, ◌-ℤ◌, ◌*ℤ◌, ℕ, ℤ, pos, negsuc, true, Option, Some, None, FitsSigned}
-use Rattle.std.specs.Int.{w64, int_wrapping_add, int_wrapping_sub, cast_signed, cast_unsigned, int_div_euclid}
+use Rattle.std.specs.Int.{Width, w64, int_wrapping_add, int_wrapping_sub, cast_signed, cast_unsigned, int_div_euclid}
 use Rattle.std.specs.Option.{option_map, option_and_then}
 use Rattle.std.proofs.Common.{refl, ap, ◌∙◌, sym}
 use Rattle.num_traits.specs.Ints.{signed-wrapping_add, signed-wrapping_sub}
-use Rattle.col_model.specs.Arithmetic.{Signed, wrapped_value, fitting_value, floor_by, floor_mod}
+use Rattle.col_model.specs.Arithmetic.{Signed, word_values, wrapped_value, fitting_value, floor_by, floor_mod}
 use Rattle.col_model.specs.Formula.{Formula, X, Y, Constant, Product, value_of, divided, on_both}
 use Rattle.col_model.specs.declared.ticks.UnitChange.{UnitChange}
 use Rattle.col_model.specs.declared.ticks.UnitChange.TheVariants.{Finer, Same, Coarser}
@@ -15,6 +15,8 @@ use Rattle.col_arith.specs.declared.operators.Operand.TheVariants.{Moment, Lengt
 use Rattle.col_arith.specs.declared.operators.Meeting.{Meeting}
 use Rattle.col_arith.specs.declared.operators.Meeting.TheVariants as meetings
 use Rattle.col_arith.specs.declared.operators.OperatorRow.TheVariants.{DateWith, Ticks, Rest}
+use Rattle.col_arith.specs.declared.scalars.ScalarForm.{ScalarForm}
+use Rattle.col_arith.specs.ScalarForm.{form_of}
 use Rattle.col_arith.specs.OperatorRow.{operand_of, join_of, formula_of, is_tick_in, tick_values, date_values}
 use Rattle.col_model.specs.OperatorTable.{wrapping}
 use Rattle.std.proofs.lemmas.Int.{to_z-of_z}
@@ -31,11 +33,11 @@ pub wrapped-difference : (x y : ℤ) → FitsSigned w64 x → FitsSigned w64 y
 unfolding wrapped_value
 wrapped-difference x y f g = signed-wrapping_sub w64 x y _ refl f g
 
--- a tick reads as itself
-read_tick : (slot : Option ℤ) → is_tick_in tick_values slot ≡ true
-    → option_map (wrapped_value (Signed w64)) slot ≡ slot
-read_tick None h = refl
-read_tick (Some x) h = ap Some (read_signed w64 x (held_from_within (Signed w64) x h))
+-- a slot of a word reads as itself
+pub read_slot : (w : Width) (slot : Option ℤ) → is_tick_in (word_values (Signed w)) slot ≡ true
+    → option_map (wrapped_value (Signed w)) slot ≡ slot
+read_slot w None h = refl
+read_slot w (Some x) h = ap Some (read_signed w x (held_from_within (Signed w) x h))
 
 -- a word as std passes it
 passed : (x : ℤ) → FitsSigned w64 x → wrapped_value (Signed w64) (cast_signed w64 (cast_unsigned w64 x)) ≡ x
@@ -46,7 +48,7 @@ pub rest-read : (slot : Option ℤ) (x y : ℤ) → is_tick_in tick_values slot 
     → option_map (wrapped_value (Signed w64)) slot
     ≡ divided floor_mod (wrapped_value (Signed w64) (cast_signed w64 (cast_unsigned w64 x))) (wrapped_value (Signed w64) (cast_signed w64 (cast_unsigned w64 y)))
     → slot ≡ divided floor_mod x y
-rest-read slot x y h f g e = sym (read_tick slot h) ∙ rw (passed x f, passed y g) at e
+rest-read slot x y h f g e = sym (read_slot w64 slot h) ∙ rw (passed x f, passed y g) at e
 
 -- a length of time on the left or on the right has the same value
 pub length-left : (change : UnitChange) (x y : ℤ) → value_of (duration_by change X) x y ≡ value_of (duration_by change X) x x
@@ -132,3 +134,18 @@ pub rest-both : (left right : UnitChange) (x y : ℤ) (slot p q : Option ℤ)
 rest-both left right x y slot p q e f g =
     g ∙ ap (λ (o : Option ℤ). on_both (divided floor_mod) o q) (e ∙ sym (length-left left x y))
     ∙ ap (λ (o : Option ℤ). on_both (divided floor_mod) (value_of (duration_by left X) x y) o) (f ∙ sym (length-right right x y))
+
+-- ---- words
+
+-- what a form gives in words it gives in the integers that they stand for
+pub form-read : (w : Width) (form : ScalarForm) (slot : Option ℤ) (x k y l : ℤ) → is_tick_in (word_values (Signed w)) slot ≡ true
+    → x ≡ y → k ≡ l → FitsSigned w y → FitsSigned w l
+    → option_map (wrapped_value (Signed w)) slot
+    ≡ value_of (form_of form (wrapped_value (Signed w) k) (Signed w)) (wrapped_value (Signed w) x) (wrapped_value (Signed w) x)
+    → slot ≡ value_of (form_of form l (Signed w)) y y
+form-read w form slot x k y l h p q f g e =
+    let value : wrapped_value (Signed w) x ≡ y = ap (wrapped_value (Signed w)) p ∙ read_signed w y f in
+    let scalar : wrapped_value (Signed w) k ≡ l = ap (wrapped_value (Signed w)) q ∙ read_signed w l g in
+    sym (read_slot w slot h) ∙ e
+    ∙ ap (λ (v : ℤ). value_of (form_of form v (Signed w)) (wrapped_value (Signed w) x) (wrapped_value (Signed w) x)) scalar
+    ∙ ap (λ (v : ℤ). value_of (form_of form l (Signed w)) v v) value

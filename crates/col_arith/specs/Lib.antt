@@ -1,2 +1,3 @@
 pub mod OperatorRow
 pub mod Rows
+pub mod ScalarForm

@@ -3,4 +3,5 @@
 
 mod operators;
 mod rows;
+mod scalars;
 mod ticks;
