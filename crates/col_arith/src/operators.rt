@@ -1,6 +1,6 @@
 // The rows of the operator table.
 ghost use Rattle.std.specs.Prelude.{◌≡◌, Some, IfSome};
-ghost use Rattle.col_types.specs.TimeUnit.{coarser_unit, ticks_per_day};
+ghost use Rattle.col_types.specs.TimeUnit.{ticks_per_day};
 ghost use Rattle.col_types.specs.DataType.{same_zone};
 ghost use Rattle.col_model.specs.UnitChange.{unit_change};
 ghost use Rattle.col_model.specs.OperatorTable.{operator_rule, sum_rule, difference_rule};
@@ -8,7 +8,7 @@ ghost use Rattle.col_model.specs.OperatorTable.{rest_rule};
 ghost use Rattle.col_arith.specs.OperatorRow.{rule_of, IsProper, IsProperOperand, FitsTypes};
 
 use col_model::{UnitChange, unit_change};
-use col_types::{BinOp, DataType, TimeUnit, TimeZone};
+use col_types::{BinOp, DataType, TimeUnit, TimeZone, get_time_units};
 
 /// How two values meet.
 #[derive(Clone, Copy)]
@@ -50,16 +50,6 @@ pub(crate) enum OperatorRow {
 pub(crate) struct Rule {
     pub(crate) dtype: DataType,
     pub(crate) row: OperatorRow,
-}
-
-fn coarser_unit(u: TimeUnit, v: TimeUnit) -> TimeUnit
-    ensures unit { result ≡ coarser_unit u v }
-{
-    if u.nanos_per_tick() < v.nanos_per_tick() {
-        v
-    } else {
-        u
-    }
 }
 
 fn ticks_per_day(unit: TimeUnit) -> u64
@@ -150,17 +140,17 @@ fn sum_rule(left: &DataType, right: &DataType) -> Option<Rule>
             Some(Rule { dtype: DataType::Date, row })
         }
         (DataType::Datetime(u, zone), DataType::Duration(v)) => {
-            let w = coarser_unit(*u, *v);
+            let w = get_time_units(*u, *v);
             let row = sum(moment(*u, w), length(*v, w));
             Some(Rule { dtype: DataType::Datetime(w, *zone), row })
         }
         (DataType::Duration(u), DataType::Datetime(v, zone)) => {
-            let w = coarser_unit(*u, *v);
+            let w = get_time_units(*u, *v);
             let row = sum(length(*u, w), moment(*v, w));
             Some(Rule { dtype: DataType::Datetime(w, *zone), row })
         }
         (DataType::Duration(u), DataType::Duration(v)) => {
-            let w = coarser_unit(*u, *v);
+            let w = get_time_units(*u, *v);
             let row = sum(length(*u, w), length(*v, w));
             Some(Rule { dtype: DataType::Duration(w), row })
         }
@@ -196,17 +186,17 @@ fn difference_rule(left: &DataType, right: &DataType) -> Option<Rule>
             if !same_zone(y, z) {
                 return None;
             }
-            let w = coarser_unit(*u, *v);
+            let w = get_time_units(*u, *v);
             let row = difference(moment(*u, w), moment(*v, w));
             Some(Rule { dtype: DataType::Duration(w), row })
         }
         (DataType::Datetime(u, zone), DataType::Duration(v)) => {
-            let w = coarser_unit(*u, *v);
+            let w = get_time_units(*u, *v);
             let row = difference(moment(*u, w), length(*v, w));
             Some(Rule { dtype: DataType::Datetime(w, *zone), row })
         }
         (DataType::Duration(u), DataType::Duration(v)) => {
-            let w = coarser_unit(*u, *v);
+            let w = get_time_units(*u, *v);
             let row = difference(length(*u, w), length(*v, w));
             Some(Rule { dtype: DataType::Duration(w), row })
         }
@@ -220,7 +210,7 @@ fn rest_rule(left: &DataType, right: &DataType) -> Option<Rule>
 {
     match (left, right) {
         (DataType::Duration(u), DataType::Duration(v)) => {
-            let w = coarser_unit(*u, *v);
+            let w = get_time_units(*u, *v);
             let row = OperatorRow::Rest(unit_change(*u, w), unit_change(*v, w));
             Some(Rule { dtype: DataType::Duration(w), row })
         }
