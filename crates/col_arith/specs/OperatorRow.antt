@@ -41,10 +41,14 @@ formula_of (LengthThenDate day) = as_date (formulas.Sum (FloorBy X day) Y)
 formula_of (Ticks meeting left right) = wrapping (join_of meeting) (operand_of left X) (operand_of right Y)
 formula_of (Rest left right) = FloorMod (duration_by left X) (duration_by right Y)
 
+-- the row of the table
+abbrev pub operator_rule_of : Rule → OperatorRule
+operator_rule_of rule = record { dtype = rule.dtype; formula = formula_of rule.row }
+
 -- the row of the table, or none
 abbrev pub rule_of : Option Rule → Option OperatorRule
 rule_of None = None
-rule_of (Some rule) = Some (record { dtype = rule.dtype; formula = formula_of rule.row })
+rule_of (Some rule) = Some (operator_rule_of rule)
 
 -- ---- values
 
