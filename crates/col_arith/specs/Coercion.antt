@@ -1,5 +1,5 @@
 -- How two columns come to common types before they meet.
-use Rattle.std.specs.Prelude.{Bool, false, not, ◌||◌, length, Option, Some, None, Result, Ok, Err, if◌then◌else◌}
+use Rattle.std.specs.Prelude.{◌≡◌, Bool, true, false, is_some, not, ◌||◌, length, Option, Some, None, Result, Ok, Err, if◌then◌else◌}
 use Rattle.std.specs.Option.{option_map}
 use Rattle.col_types.specs.TimeUnit.{coarser_unit}
 use Rattle.col_types.specs.DataType.{same_type}
@@ -10,7 +10,7 @@ use Rattle.col_types.specs.declared.operator.BinOp.{BinOp}
 use Rattle.col_types.specs.declared.operator.OpName.TheVariants.{Coerce}
 use Rattle.col_types.specs.declared.error.PolarsError.{PolarsError}
 use Rattle.col_model.specs.Broadcast.{broadcast_length}
-use Rattle.col_model.specs.Column.{Column}
+use Rattle.col_model.specs.Column.{Column, is_built_type}
 use Rattle.col_model.specs.CastTable.{cast_rule}
 use Rattle.col_model.specs.ColumnCalls.{cast_column}
 use Rattle.col_model.specs.OperatorTable.{OperatorRule, operator_rule}
@@ -32,6 +32,11 @@ coerced_types left right = option_map both (supertype_of left right)
 -- a column in the type, a value null that has no room there
 abbrev pub cast_to : Column → DataType → Column
 cast_to column target = cast_column column target (cast_rule column.dtype target NonStrict)
+
+-- a cast leads from the one type to the other, and a column can have it
+pub record CanCast (from to : DataType) : Type 0 where
+  pub built : is_built_type to ≡ true
+  pub listed : is_some (cast_rule from to NonStrict) ≡ true
 
 -- the columns in these types, or that there are none
 abbrev pub coerced_to : Column → Column → Option (DataType × DataType) → Result (Column × Column) PolarsError

@@ -1,12 +1,9 @@
 // Common types of two columns.
-ghost use Rattle.std.specs.Prelude.{◌≡◌, true, false, option_map, IfSome};
+ghost use Rattle.std.specs.Prelude.{◌≡◌, true, false, Ok, IfSome};
 ghost use Rattle.col_types.specs.PolarsError.{Gives};
-ghost use Rattle.col_types.specs.DataType.{is_nested};
-ghost use Rattle.col_types.specs.Supertype.{supertype_of};
 ghost use Rattle.col_model.specs.Column.{is_built_type};
-ghost use Rattle.col_model.specs.OperatorTable.{operator_rule};
 ghost use Rattle.col_arith.specs.Coercion.{coerced_types, coerced_of, cast_to, changes_type};
-ghost use Rattle.col_arith.specs.Coercion.{uncoerced_rule};
+ghost use Rattle.col_arith.specs.Coercion.{uncoerced_rule, CanCast};
 ghost use Rattle.col_arith.specs.OperatorRow.{rule_of, FitsTypes};
 
 use crate::operators::{Rule, rule_for};
@@ -49,6 +46,32 @@ fn coerced_types(left: &DataType, right: &DataType) -> Option<(DataType, DataTyp
     }
 }
 
+/// The column in a type to which a cast leads. The one refusal is `NoMemory`.
+fn cast_to(alloc: Global, column: &Series, target: &DataType) -> PolarsResult<Series>
+    requires can { CanCast column.now.dtype target.now }
+    ensures column { Gives result (Ok (cast_to column.now target.now)) }
+{
+    column.cast_with_options(alloc, target, CastOptions::NonStrict)
+}
+
+/// Both columns, each in a type to which a cast leads. The one refusal is `NoMemory`.
+fn cast_both(
+    alloc: Global,
+    lhs: &Series,
+    left: &DataType,
+    rhs: &Series,
+    right: &DataType,
+) -> PolarsResult<(Series, Series)>
+    requires left { CanCast lhs.now.dtype left.now }
+    requires right { CanCast rhs.now.dtype right.now }
+    ensures columns { Gives result (Ok (cast_to lhs.now left.now, cast_to rhs.now right.now)) }
+{
+    match (cast_to(alloc, lhs, left), cast_to(alloc, rhs, right)) {
+        (Ok(left), Ok(right)) => Ok((left, right)),
+        (Err(refusal), _) | (_, Err(refusal)) => Err(refusal),
+    }
+}
+
 /// Both columns in common types, each value null that has no room there: a moment and a length of
 /// time, or two lengths, in the coarser unit; a date and a length of time as they are; all others
 /// in their supertype. Refused where there is none (`Types`).
@@ -58,11 +81,7 @@ pub fn coerce_lhs_rhs(alloc: Global, lhs: &Series, rhs: &Series) -> PolarsResult
     lhs.known();
     rhs.known();
     match coerced_types(lhs.dtype(), rhs.dtype()) {
-        Some((left, right)) => {
-            let left = lhs.cast_with_options(alloc, &left, CastOptions::NonStrict)?;
-            let right = rhs.cast_with_options(alloc, &right, CastOptions::NonStrict)?;
-            Ok((left, right))
-        }
+        Some((left, right)) => cast_both(alloc, lhs, &left, rhs, &right),
         None => Err(PolarsError::Types {
             op: OpName::Coerce,
             left: lhs.dtype().kind(),
