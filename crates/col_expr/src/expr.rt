@@ -2,17 +2,28 @@
 ghost use Rattle.std.specs.Prelude.{◌≡◌, ◌+◌, ◌≤◌, ◌↔◌, max, true, OnOk, IfOk, IfErr};
 ghost use Rattle.std.specs.Prelude.{IfSome, IsNone, Some, None};
 ghost use Rattle.col_expr.specs.Tree.{
-    Input, Cast, Binary, ScalarRight, ScalarLeft, InUnit, Shift,
+  Input,
+  Cast,
+  Binary,
+  ScalarRight,
+  ScalarLeft,
+  InUnit,
+  Shift,
 };
 ghost use Rattle.col_expr.specs.Tree.{
-    node_count, depth_of, max_nodes, max_depth, is_within_limits,
+  node_count,
+  depth_of,
+  max_nodes,
+  max_depth,
+  is_within_limits,
 };
 ghost use Rattle.col_expr.specs.Node.{over, node_tree};
 ghost use Rattle.col_expr.specs.Built.{is_built, is_built_cast, is_built_operation, IsRefusedFor};
 
 use crate::error::{ExprCause, ExprRefused};
 use crate::node::{Node, UnaryOp};
-use col_series::{BinOp, CastOptions, DataType, ScalarOp, TimeUnit};
+use col_series::{CastOptions, DataType, TimeUnit};
+use col_types::{BinOp, ScalarOp};
 use std::alloc::Global;
 use std::marker::Model;
 

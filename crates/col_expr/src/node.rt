@@ -1,5 +1,6 @@
 // The nodes of an expression.
-use col_series::{BinOp, CastOptions, DataType, ScalarOp, TimeUnit};
+use col_series::{CastOptions, DataType, TimeUnit};
+use col_types::{BinOp, ScalarOp};
 
 /// A node with those below it.
 #[derive(Drop)]

@@ -11,9 +11,8 @@ ghost use Rattle.col_expr.specs.Found.{numbered, cast_at, unary_at};
 use crate::error::EvalError;
 use crate::node::UnaryOp;
 use col_arith::SeriesArith;
-use col_series::{
-    BinOp, CastOptions, DataType, PolarsError, PolarsResult, ScalarOp, Series,
-};
+use col_series::{CastOptions, DataType, PolarsError, PolarsResult, Series};
+use col_types::{BinOp, ScalarOp};
 use std::alloc::Global;
 
 // The answer of a node that does one operation with its operand's column.
@@ -119,9 +118,8 @@ pub(crate) fn at_node(answer: PolarsResult<Series>, node: u32) -> Result<Series,
 {
     match answer {
         Ok(column) => Ok(column),
-        Err(PolarsError::CastPair { .. } | PolarsError::Types { .. } | PolarsError::Scale { .. }) => {
-            Err(EvalError::Unsupported { node })
-        }
+        Err(PolarsError::CastPair { .. } | PolarsError::Types { .. } | PolarsError::Scale { .. }) =>
+            { Err(EvalError::Unsupported { node }) }
         Err(PolarsError::BadType { .. }) => Err(EvalError::BadType { node }),
         Err(PolarsError::Scalar { .. }) => Err(EvalError::Scalar { node }),
         Err(PolarsError::Strict { row }) => Err(EvalError::Strict { node, row }),

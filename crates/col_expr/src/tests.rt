@@ -1,0 +1,286 @@
+// That calls succeed, what they answer, and how deep they go.
+ghost use Rattle.std.specs.Prelude.{◌≡◌, ◌<◌, true};
+ghost use Rattle.col_model.specs.Column.{is_built_type};
+ghost use Rattle.col_expr.specs.Built.{is_built_cast};
+
+use super::*;
+use col_series::{AnyValue, PlSmallStr};
+use std::alloc::Global;
+use std::marker::Brand;
+use std::sync::ledger::{Blank, Ledger};
+use std::test::Fail;
+
+fn moments(unit: TimeUnit) -> DataType
+    ensures built { is_built_type result ≡ true }
+    ensures target { is_built_cast result ≡ true }
+{
+    DataType::Datetime(unit, None)
+}
+
+fn column(alloc: Global, dtype: DataType, slots: &[Option<i128>]) -> Result<Series, Fail>
+    requires built { is_built_type dtype ≡ true }
+{
+    let name = PlSmallStr::from_str(alloc, "a")?;
+    Ok(Series::from_slots(alloc, name, &dtype, slots)?)
+}
+
+fn one_input(alloc: Global, unit: TimeUnit, slots: &[Option<i128>]) -> Result<Inputs, Fail> {
+    let column = column(alloc, moments(unit), slots)?;
+    let mut inputs = Inputs::new(alloc);
+    match inputs.push(column) {
+        Ok(()) => Ok(inputs),
+        Err(_) => Err(Fail::new("no memory")),
+    }
+}
+
+// Moments, and lengths of time in the same unit.
+fn two_inputs(
+    alloc: Global,
+    left: &[Option<i128>],
+    right: &[Option<i128>],
+) -> Result<Inputs, Fail> {
+    let unit = TimeUnit::Milliseconds;
+    let left = column(alloc, moments(unit), left)?;
+    let right = column(alloc, DataType::Duration(unit), right)?;
+    let mut inputs = Inputs::new(alloc);
+    match inputs.push(left) {
+        Ok(()) => {}
+        Err(_) => return Err(Fail::new("no memory")),
+    }
+    match inputs.push(right) {
+        Ok(()) => Ok(inputs),
+        Err(_) => Err(Fail::new("no memory")),
+    }
+}
+
+fn built(answer: Result<Expr, ExprRefused>) -> Result<Expr, Fail> {
+    match answer {
+        Ok(expr) => Ok(expr),
+        Err(refused) => Err(Fail::from(refused.cause)),
+    }
+}
+
+fn cast(alloc: Global, operand: Expr, dtype: DataType, options: CastOptions) -> Result<Expr, Fail>
+    requires built { is_built_cast dtype ≡ true }
+{
+    built(Expr::cast(alloc, operand, dtype, options))
+}
+
+fn binary(alloc: Global, op: BinOp, left: Expr, right: Expr) -> Result<Expr, Fail> {
+    built(Expr::binary(alloc, op, left, right))
+}
+
+fn counted<L: Ledger>(
+    alloc: Global,
+    blank: Blank,
+    expr: &Expr,
+    inputs: &Inputs,
+) -> Result<Series, EvalError>
+    requires name { blank.name ≡ L.name }
+    requires parts { blank.parts ≡ L.parts }
+    requires open { 0 < blank.parts }
+{
+    let mut steps = Steps::<L>::new(blank);
+    evaluate(alloc, expr, inputs, &mut steps)
+}
+
+fn answer(alloc: Global, expr: &Expr, inputs: &Inputs) -> Result<Series, EvalError> {
+    counted::<Brand>(alloc, Blank::new(1), expr, inputs)
+}
+
+fn tick(column: &Series, row: usize) -> Result<Option<i64>, Fail> {
+    Ok(match column.get(row)? {
+        AnyValue::Datetime(tick, _, _) | AnyValue::Duration(tick, _) => Some(tick),
+        _ => None,
+    })
+}
+
+#[test]
+fn a_coarser_unit_rounds_down(rt: HostRuntime) -> Result<(), Fail> {
+    let alloc = rt.alloc();
+    let slots = [Some(-1), None, Some(1_999_999)];
+    let inputs = one_input(alloc, TimeUnit::Nanoseconds, &slots)?;
+    let target = moments(TimeUnit::Milliseconds);
+    let expr = cast(alloc, Expr::input(0), target, CastOptions::NonStrict)?;
+    let column = answer(alloc, &expr, &inputs)?;
+    assert_eq!(rt; column.name().as_str(), "a");
+    assert_eq!(rt; column.len(), 3);
+    for (row, wanted) in [(0, Some(-1)), (1, None), (2, Some(1))] {
+        assert_eq!(rt; tick(&column, row)?, wanted, "at {row}");
+    }
+    Ok(())
+}
+
+#[test]
+fn refusals_name_the_first_refused_node(rt: HostRuntime) -> Result<(), Fail> {
+    let alloc = rt.alloc();
+    let slots = [None, Some(9_223_372_036_854_775_807)];
+    let inputs = one_input(alloc, TimeUnit::Milliseconds, &slots)?;
+    let finer = moments(TimeUnit::Microseconds);
+    let length = DataType::Duration(TimeUnit::Milliseconds);
+    let same = moments(TimeUnit::Milliseconds);
+    let past = cast(alloc, Expr::input(1), finer, CastOptions::NonStrict)?;
+    let chain = cast(alloc, Expr::input(0), same, CastOptions::NonStrict)?;
+    let chain = cast(alloc, chain, length, CastOptions::NonStrict)?;
+    let chain = cast(
+        alloc,
+        chain,
+        moments(TimeUnit::Milliseconds),
+        CastOptions::NonStrict,
+    )?;
+    let lossy = cast(
+        alloc,
+        Expr::input(0),
+        moments(TimeUnit::Nanoseconds),
+        CastOptions::Strict,
+    )?;
+    let text = cast(
+        alloc,
+        Expr::input(0),
+        DataType::String,
+        CastOptions::NonStrict,
+    )?;
+    for (given, wanted) in [
+        (text, EvalError::BadType { node: 1 }),
+        (
+            past,
+            EvalError::NoColumn {
+                node: 0,
+                index: 1,
+                count: 1,
+            },
+        ),
+        (chain, EvalError::Unsupported { node: 2 }),
+        (lossy, EvalError::Strict { node: 1, row: 1 }),
+    ] {
+        match answer(alloc, &given, &inputs) {
+            Ok(_) => return Err(Fail::new("not refused")),
+            Err(error) => assert!(rt; error == wanted, "at {wanted:?}"),
+        }
+    }
+    Ok(())
+}
+
+#[test]
+fn the_deepest_expression_is_evaluated(rt: HostRuntime) -> Result<(), Fail> {
+    let alloc = rt.alloc();
+    let inputs = one_input(alloc, TimeUnit::Milliseconds, &[Some(7)])?;
+    let mut deepest = Expr::input(0);
+    for _cast in 0..511 {
+        let target = moments(TimeUnit::Milliseconds);
+        deepest = cast(alloc, deepest, target, CastOptions::Strict)?;
+    }
+    let target = moments(TimeUnit::Milliseconds);
+    match Expr::cast(alloc, deepest, target, CastOptions::Strict) {
+        Ok(_) => Err(Fail::new("not refused")),
+        Err(refused) => {
+            assert!(rt; refused.cause == ExprCause::ExprTooDeep { depth: 513 });
+            assert!(rt; refused.left.depth() == 512 && refused.left.nodes() == 512);
+            let column = answer(alloc, &refused.left, &inputs)?;
+            assert_eq!(rt; tick(&column, 0)?, Some(7));
+            Ok(())
+        }
+    }
+}
+
+#[test]
+fn each_node_has_its_column(rt: HostRuntime) -> Result<(), Fail> {
+    let alloc = rt.alloc();
+    let inputs = two_inputs(
+        alloc,
+        &[Some(5), None, Some(-7)],
+        &[Some(2), Some(3), Some(4)],
+    )?;
+    let sum = binary(alloc, BinOp::Add, Expr::input(0), Expr::input(1))?;
+    let difference = binary(alloc, BinOp::Sub, Expr::input(0), Expr::input(1))?;
+    let half = Expr::scalar_right(alloc, Expr::input(0), ScalarOp::TruncDiv, 2);
+    let rest = Expr::scalar_left(alloc, 10, BinOp::Sub, Expr::input(0));
+    let finer = Expr::unit(alloc, Expr::input(0), TimeUnit::Microseconds);
+    let down = Expr::shift(alloc, Expr::input(0), 1);
+    for (given, wanted) in [
+        (sum, [Some(7), None, Some(-3)]),
+        (difference, [Some(3), None, Some(-11)]),
+        (built(half)?, [Some(2), None, Some(-3)]),
+        (built(rest)?, [Some(5), None, Some(17)]),
+        (built(finer)?, [Some(5_000), None, Some(-7_000)]),
+        (built(down)?, [None, Some(5), None]),
+    ] {
+        let column = answer(alloc, &given, &inputs)?;
+        for (row, slot) in wanted.iter().enumerate() {
+            assert_eq!(rt; tick(&column, row)?, *slot, "at {wanted:?} {row}");
+        }
+    }
+    Ok(())
+}
+
+#[test]
+fn tests_of_a_node_come_in_order(rt: HostRuntime) -> Result<(), Fail> {
+    let alloc = rt.alloc();
+    let inputs = two_inputs(alloc, &[Some(5), None, Some(-7)], &[Some(2), Some(3)])?;
+    let past_word = 9_223_372_036_854_775_808;
+    let refused = Expr::scalar_right(alloc, Expr::input(0), ScalarOp::Add, past_word);
+    let apart = binary(alloc, BinOp::Mul, Expr::input(0), Expr::input(1))?;
+    let unlisted = binary(alloc, BinOp::Mul, Expr::input(0), Expr::input(0))?;
+    let both = binary(alloc, BinOp::Add, Expr::input(7), Expr::input(8))?;
+    let right = binary(alloc, BinOp::Add, Expr::input(0), Expr::input(8))?;
+    for (given, wanted) in [
+        (built(refused)?, EvalError::Scalar { node: 1 }),
+        (
+            apart,
+            EvalError::Lengths {
+                node: 2,
+                left: 3,
+                right: 2,
+            },
+        ),
+        (unlisted, EvalError::Unsupported { node: 2 }),
+        (
+            both,
+            EvalError::NoColumn {
+                node: 0,
+                index: 7,
+                count: 2,
+            },
+        ),
+        (
+            right,
+            EvalError::NoColumn {
+                node: 1,
+                index: 8,
+                count: 2,
+            },
+        ),
+    ] {
+        match answer(alloc, &given, &inputs) {
+            Ok(_) => return Err(Fail::new("not refused")),
+            Err(error) => assert!(rt; error == wanted, "at {wanted:?}"),
+        }
+    }
+    Ok(())
+}
+
+// The full tree of so many levels.
+fn full(alloc: Global, levels: u32) -> Result<Expr, Fail> {
+    if levels <= 1 {
+        return Ok(Expr::input(0));
+    }
+    let left = full(alloc, levels - 1)?;
+    let right = full(alloc, levels - 1)?;
+    binary(alloc, BinOp::Add, left, right)
+}
+
+#[test]
+fn the_largest_expression_is_built(rt: HostRuntime) -> Result<(), Fail> {
+    let alloc = rt.alloc();
+    let full = full(alloc, 20)?;
+    assert_eq!(rt; full.nodes(), 1_048_575);
+    let largest = built(Expr::shift(alloc, full, 1))?;
+    match Expr::shift(alloc, largest, 1) {
+        Ok(_) => Err(Fail::new("not refused")),
+        Err(refused) => {
+            assert!(rt; refused.cause == ExprCause::ExprTooLarge { nodes: 1_048_577 });
+            assert!(rt; refused.left.nodes() == 1_048_576 && refused.left.depth() == 21);
+            Ok(())
+        }
+    }
+}
