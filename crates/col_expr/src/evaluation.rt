@@ -127,9 +127,9 @@ fn at_node(answer: PolarsResult<Series>, node: u32) -> Result<Series, EvalError>
 {
     match answer {
         Ok(column) => Ok(column),
-        Err(PolarsError::CastPair { .. } | PolarsError::Types { .. } | PolarsError::Scale { .. }) => {
-            Err(EvalError::Unsupported { node })
-        }
+        Err(PolarsError::CastPair { .. }) => Err(EvalError::Unsupported { node }),
+        Err(PolarsError::Types { .. }) => Err(EvalError::Unsupported { node }),
+        Err(PolarsError::Scale { .. }) => Err(EvalError::Unsupported { node }),
         Err(PolarsError::BadType { .. }) => Err(EvalError::BadType { node }),
         Err(PolarsError::Scalar { .. }) => Err(EvalError::Scalar { node }),
         Err(PolarsError::Strict { row }) => Err(EvalError::Strict { node, row }),
