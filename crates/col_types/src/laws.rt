@@ -1,13 +1,12 @@
 // Laws above the definitions. Each function does nothing: its contract is the law.
 ghost use Rattle.std.specs.Prelude.{◌≡◌, List, ℕ, [], true, Option, Some, None, Ok};
-ghost use Rattle.std.specs.Ordering.{nat_cmp};
 ghost use Rattle.std.specs.Cmp.{IsEquivalence};
 ghost use Rattle.col_types.specs.declared.is_sorted.IsSorted.{IsSorted};
 ghost use Rattle.col_types.specs.declared.time_unit.TimeUnit.{TimeUnit};
-ghost use Rattle.col_types.specs.TimeUnit.{nanos_per_tick, coarser_unit, to_arrow, from_arrow};
+ghost use Rattle.col_types.specs.TimeUnit.{coarser_unit, to_arrow, from_arrow};
 ghost use Rattle.col_types.specs.IsSorted.{reversed};
 ghost use Rattle.col_types.specs.Zones.{opt_zone, eq_wildcard_aware, eq_none_as_utc};
-ghost use Rattle.col_types.specs.Laws.{GivesItselfAgain, WildcardJoinsWhatDiffers};
+ghost use Rattle.col_types.specs.Laws.{OrdersByTick, GivesItselfAgain, WildcardJoinsWhatDiffers};
 
 use crate::TimeUnit;
 
@@ -18,7 +17,7 @@ pub fn reverse_flag()
 
 /// A unit is less than another exactly where its tick is shorter.
 pub fn units_are_ordered()
-    ensures order { (u v : TimeUnit) → ⟦<TimeUnit as PartialOrd>⟧.partial_cmp u v ≡ Some (nat_cmp (nanos_per_tick u) (nanos_per_tick v)) }
+    ensures order { OrdersByTick ⟦<TimeUnit as PartialOrd>⟧.partial_cmp }
 {}
 
 /// Arrow has each unit under its name, and of two units it doesn't matter which comes first.
@@ -37,7 +36,7 @@ pub fn zone_names_are_canonical()
 /// reflexive and symmetric, but not transitive.
 pub fn zone_equalities()
     ensures none_as_utc { IsEquivalence eq_none_as_utc }
-    ensures reflexive { (zone : List ℕ) → eq_wildcard_aware zone zone ≡ true }
-    ensures symmetric { (this other : List ℕ) → eq_wildcard_aware this other ≡ eq_wildcard_aware other this }
+    ensures reflexive { (y : List ℕ) → eq_wildcard_aware y y ≡ true }
+    ensures symmetric { (y z : List ℕ) → eq_wildcard_aware y z ≡ eq_wildcard_aware z y }
     ensures not_transitive { WildcardJoinsWhatDiffers }
 {}

@@ -7,8 +7,10 @@ mod error;
 mod field;
 mod is_sorted;
 mod laws;
+mod nested_type;
 mod operator;
 mod small_str;
+mod supertype;
 #[cfg(test)]
 mod tests;
 mod time_unit;
@@ -27,6 +29,7 @@ pub use laws::{
 };
 pub use operator::{BinOp, OpName, ScalarOp};
 pub use small_str::PlSmallStr;
+pub use supertype::{flat_supertype, try_get_supertype};
 pub use time_unit::{ArrowTimeUnit, TimeUnit, get_time_units};
 pub use time_zone::{TimeZone, parse_fixed_offset, parse_time_zone};
 pub use zone_names::ZoneNames;

@@ -1,6 +1,7 @@
 // The units of ticks.
 ghost use Rattle.std.specs.Prelude.{◌≡◌, Some};
-ghost use Rattle.col_types.specs.TimeUnit.{unit_name, unit_symbol, nanos_per_tick, coarser_unit, to_arrow, from_arrow};
+ghost use Rattle.col_types.specs.TimeUnit.{unit_name, unit_symbol, nanos_per_tick};
+ghost use Rattle.col_types.specs.TimeUnit.{coarser_unit, to_arrow, from_arrow};
 
 use std::fmt;
 
