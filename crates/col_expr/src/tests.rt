@@ -1,5 +1,5 @@
 // That calls succeed, what they answer, and how deep they go.
-ghost use Rattle.std.specs.Prelude.{◌≡◌, ◌<◌, true};
+ghost use Rattle.std.specs.Prelude.{◌≡◌, ◌<◌, true, length, IfOk};
 ghost use Rattle.col_model.specs.Column.{is_built_type};
 ghost use Rattle.col_expr.specs.Built.{is_built_cast};
 
@@ -24,7 +24,9 @@ fn column(alloc: Global, dtype: DataType, slots: &[Option<i128>]) -> Result<Seri
     Ok(Series::from_slots(alloc, name, &dtype, slots)?)
 }
 
-fn one_input(alloc: Global, unit: TimeUnit, slots: &[Option<i128>]) -> Result<Inputs, Fail> {
+fn one_input(alloc: Global, unit: TimeUnit, slots: &[Option<i128>]) -> Result<Inputs, Fail>
+    ensures one { IfOk result (λ inputs. length inputs ≡ 1) }
+{
     let column = column(alloc, moments(unit), slots)?;
     let mut inputs = Inputs::new(alloc);
     match inputs.push(column) {
@@ -36,18 +38,12 @@ fn one_input(alloc: Global, unit: TimeUnit, slots: &[Option<i128>]) -> Result<In
 // Moments, and lengths of time in the same unit.
 fn two_inputs(
     alloc: Global,
-    left: &[Option<i128>],
-    right: &[Option<i128>],
+    moments: &[Option<i128>],
+    lengths: &[Option<i128>],
 ) -> Result<Inputs, Fail> {
-    let unit = TimeUnit::Milliseconds;
-    let left = column(alloc, moments(unit), left)?;
-    let right = column(alloc, DataType::Duration(unit), right)?;
-    let mut inputs = Inputs::new(alloc);
-    match inputs.push(left) {
-        Ok(()) => {}
-        Err(_) => return Err(Fail::new("no memory")),
-    }
-    match inputs.push(right) {
+    let mut inputs = one_input(alloc, TimeUnit::Milliseconds, moments)?;
+    let column = column(alloc, DataType::Duration(TimeUnit::Milliseconds), lengths)?;
+    match inputs.push(column) {
         Ok(()) => Ok(inputs),
         Err(_) => Err(Fail::new("no memory")),
     }
@@ -64,10 +60,6 @@ fn cast(alloc: Global, operand: Expr, dtype: DataType, options: CastOptions) -> 
     requires built { is_built_cast dtype ≡ true }
 {
     built(Expr::cast(alloc, operand, dtype, options))
-}
-
-fn binary(alloc: Global, op: BinOp, left: Expr, right: Expr) -> Result<Expr, Fail> {
-    built(Expr::binary(alloc, op, left, right))
 }
 
 fn counted<L: Ledger>(
@@ -93,6 +85,36 @@ fn tick(column: &Series, row: usize) -> Result<Option<i64>, Fail> {
         AnyValue::Datetime(tick, _, _) | AnyValue::Duration(tick, _) => Some(tick),
         _ => None,
     })
+}
+
+fn shows(
+    alloc: Global,
+    inputs: &Inputs,
+    expr: Result<Expr, ExprRefused>,
+    wanted: &[Option<i64>],
+) -> Result<(), Fail> {
+    let expr = built(expr)?;
+    let column = answer(alloc, &expr, inputs)?;
+    for (row, slot) in wanted.iter().enumerate() {
+        if tick(&column, row)? != *slot {
+            return Err(Fail::new("another slot"));
+        }
+    }
+    Ok(())
+}
+
+fn refuses(
+    alloc: Global,
+    inputs: &Inputs,
+    expr: Result<Expr, ExprRefused>,
+    wanted: EvalError,
+) -> Result<(), Fail> {
+    let expr = built(expr)?;
+    match answer(alloc, &expr, inputs) {
+        Ok(_) => Err(Fail::new("not refused")),
+        Err(error) if error == wanted => Ok(()),
+        Err(error) => Err(Fail::from(error)),
+    }
 }
 
 #[test]
@@ -186,77 +208,44 @@ fn the_deepest_expression_is_evaluated(rt: HostRuntime) -> Result<(), Fail> {
 #[test]
 fn each_node_has_its_column(rt: HostRuntime) -> Result<(), Fail> {
     let alloc = rt.alloc();
-    let inputs = two_inputs(
-        alloc,
-        &[Some(5), None, Some(-7)],
-        &[Some(2), Some(3), Some(4)],
-    )?;
-    let sum = binary(alloc, BinOp::Add, Expr::input(0), Expr::input(1))?;
-    let difference = binary(alloc, BinOp::Sub, Expr::input(0), Expr::input(1))?;
+    let lengths = [Some(2), Some(3), Some(4)];
+    let inputs = two_inputs(alloc, &[Some(5), None, Some(-7)], &lengths)?;
+    let sum = Expr::binary(alloc, BinOp::Add, Expr::input(0), Expr::input(1));
+    shows(alloc, &inputs, sum, &[Some(7), None, Some(-3)])?;
+    let difference = Expr::binary(alloc, BinOp::Sub, Expr::input(0), Expr::input(1));
+    shows(alloc, &inputs, difference, &[Some(3), None, Some(-11)])?;
     let half = Expr::scalar_right(alloc, Expr::input(0), ScalarOp::TruncDiv, 2);
+    shows(alloc, &inputs, half, &[Some(2), None, Some(-3)])?;
     let rest = Expr::scalar_left(alloc, 10, BinOp::Sub, Expr::input(0));
+    shows(alloc, &inputs, rest, &[Some(5), None, Some(17)])?;
     let finer = Expr::unit(alloc, Expr::input(0), TimeUnit::Microseconds);
+    shows(alloc, &inputs, finer, &[Some(5_000), None, Some(-7_000)])?;
     let down = Expr::shift(alloc, Expr::input(0), 1);
-    for (given, wanted) in [
-        (sum, [Some(7), None, Some(-3)]),
-        (difference, [Some(3), None, Some(-11)]),
-        (built(half)?, [Some(2), None, Some(-3)]),
-        (built(rest)?, [Some(5), None, Some(17)]),
-        (built(finer)?, [Some(5_000), None, Some(-7_000)]),
-        (built(down)?, [None, Some(5), None]),
-    ] {
-        let column = answer(alloc, &given, &inputs)?;
-        for (row, slot) in wanted.iter().enumerate() {
-            assert_eq!(rt; tick(&column, row)?, *slot, "at {wanted:?} {row}");
-        }
-    }
-    Ok(())
+    shows(alloc, &inputs, down, &[None, Some(5), None])
 }
 
 #[test]
-fn tests_of_a_node_come_in_order(rt: HostRuntime) -> Result<(), Fail> {
+fn the_tests_of_a_node_come_in_order(rt: HostRuntime) -> Result<(), Fail> {
     let alloc = rt.alloc();
     let inputs = two_inputs(alloc, &[Some(5), None, Some(-7)], &[Some(2), Some(3)])?;
-    let past_word = 9_223_372_036_854_775_808;
-    let refused = Expr::scalar_right(alloc, Expr::input(0), ScalarOp::Add, past_word);
-    let apart = binary(alloc, BinOp::Mul, Expr::input(0), Expr::input(1))?;
-    let unlisted = binary(alloc, BinOp::Mul, Expr::input(0), Expr::input(0))?;
-    let both = binary(alloc, BinOp::Add, Expr::input(7), Expr::input(8))?;
-    let right = binary(alloc, BinOp::Add, Expr::input(0), Expr::input(8))?;
-    for (given, wanted) in [
-        (built(refused)?, EvalError::Scalar { node: 1 }),
-        (
-            apart,
-            EvalError::Lengths {
-                node: 2,
-                left: 3,
-                right: 2,
-            },
-        ),
-        (unlisted, EvalError::Unsupported { node: 2 }),
-        (
-            both,
-            EvalError::NoColumn {
-                node: 0,
-                index: 7,
-                count: 2,
-            },
-        ),
-        (
-            right,
-            EvalError::NoColumn {
-                node: 1,
-                index: 8,
-                count: 2,
-            },
-        ),
-    ] {
-        match answer(alloc, &given, &inputs) {
-            Ok(_) => return Err(Fail::new("not refused")),
-            Err(error) => assert!(rt; error == wanted, "at {wanted:?}"),
-        }
-    }
-    Ok(())
+    let too_large = Expr::scalar_right(alloc, Expr::input(0), ScalarOp::Add, 1 << 63);
+    refuses(alloc, &inputs, too_large, EvalError::Scalar { node: 1 })?;
+    let apart = Expr::binary(alloc, BinOp::Mul, Expr::input(0), Expr::input(1));
+    let lengths = EvalError::Lengths {
+        node: 2,
+        left: 3,
+        right: 2,
+    };
+    refuses(alloc, &inputs, apart, lengths)?;
+    let unlisted = Expr::binary(alloc, BinOp::Mul, Expr::input(0), Expr::input(0));
+    refuses(alloc, &inputs, unlisted, EvalError::Unsupported { node: 2 })?;
+    let both = Expr::binary(alloc, BinOp::Mul, Expr::input(7), Expr::input(8));
+    let left = EvalError::NoColumn {
+        node: 0,
+        index: 7,
+        count: 2,
+    };
+    refuses(alloc, &inputs, both, left)
 }
 
 // The full tree of so many levels.
@@ -266,7 +255,7 @@ fn full(alloc: Global, levels: u32) -> Result<Expr, Fail> {
     }
     let left = full(alloc, levels - 1)?;
     let right = full(alloc, levels - 1)?;
-    binary(alloc, BinOp::Add, left, right)
+    built(Expr::binary(alloc, BinOp::Add, left, right))
 }
 
 #[test]
