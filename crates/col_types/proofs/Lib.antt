@@ -1,2 +1,3 @@
 pub mod KnownValues
+pub mod NameLemmas
 pub mod TypeLemmas

@@ -12,6 +12,9 @@ mod small_str;
 mod tests;
 mod time_unit;
 mod time_zone;
+mod type_tests;
+mod zone_names;
+mod zone_text;
 
 pub use cast_options::{CastOptions, CastOptionsImpl};
 pub use data_type::{DataType, Kind};
@@ -21,7 +24,8 @@ pub use is_sorted::IsSorted;
 pub use operator::{BinOp, OpName, ScalarOp};
 pub use small_str::PlSmallStr;
 pub use time_unit::{ArrowTimeUnit, TimeUnit};
-pub use time_zone::TimeZone;
+pub use time_zone::{TimeZone, parse_fixed_offset, parse_time_zone};
+pub use zone_names::ZoneNames;
 
 /// The number of a row.
 pub type IdxSize = u32;

@@ -1,5 +1,6 @@
 // A shared text.
 ghost use Rattle.std.specs.Prelude.{◌≡◌, Ok, nat_eq};
+ghost use Rattle.std.specs.Rc.{rc_str_bytes};
 ghost use Rattle.std.specs.Cmp.{partial_equiv_from_equiv};
 ghost use Rattle.std.specs.Cmp.Lexicographic.{pointwise, nat_list_eq_equiv};
 ghost use Rattle.col_types.specs.PolarsError.{Gives};
@@ -40,6 +41,13 @@ impl PlSmallStr {
         ensures text { result.now ≡ self.now }
     {
         self.text.as_str()
+    }
+
+    // The shared text itself.
+    pub(crate) fn into_text(self) -> RcStr
+        ensures text { rc_str_bytes result ≡ self }
+    {
+        self.text
     }
 }
 

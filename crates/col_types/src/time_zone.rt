@@ -1,11 +1,18 @@
 // A zone's name, kept in place: the bytes of the name, and zeros after it.
-ghost use Rattle.std.specs.Prelude.{◌≡◌, nat_eq, take};
+ghost use Rattle.std.specs.Prelude.{◌≡◌, ◌≤◌, ◌-◌, ◌++◌, nat_eq, length, drop, replicate, codes, Some, None, Ok, Err, option_map, option_and_then, [], if◌then◌else◌};
+ghost use Rattle.std.specs.Option.{ok_or};
 ghost use Rattle.std.specs.Cmp.{partial_equiv_from_equiv};
 ghost use Rattle.std.specs.Cmp.Lexicographic.{pointwise, nat_list_eq_equiv};
 ghost use Rattle.std.specs.Cmp.Rules.{hashing};
 ghost use Rattle.std.specs.Hash as fed;
 ghost use Rattle.std.proofs.Common.{rules};
+ghost use Rattle.col_types.specs.declared.error.PolarsError.TheVariants.{Zone};
+ghost use Rattle.col_types.specs.PolarsError.{Gives};
+ghost use Rattle.col_types.specs.Zones.{zone_of, opt_zone, canonical_text, is_accepted, accepted_name, offset_name, is_utc_spelling};
+ghost use Rattle.col_types.specs.Zones.{eq_wildcard_aware, eq_none_as_utc, none_as_utc};
 
+use crate::{PlSmallStr, PolarsError, PolarsResult, ZoneNames, zone_text};
+use std::alloc::Global;
 use std::fmt;
 use std::hash::{Hash, Hasher};
 use std::marker::Model;
@@ -43,6 +50,159 @@ impl TimeZone {
             Err(_) => unreachable!(),
         }
     }
+
+    /// The zone `UTC`.
+    pub fn utc() -> TimeZone
+        ensures name { result ≡ codes "UTC" }
+    {
+        TimeZone::named("UTC")
+    }
+
+    /// The zone that a text names. None and the empty text give none; `*` gives the wildcard;
+    /// `+00:00`, `00:00` and `utc` give `UTC`; an accepted name gives the zone of that name; a fixed
+    /// offset gives its `Etc/GMT` zone, where that name is accepted. Every other text is refused.
+    pub fn opt_try_new(zone: Option<&str>, names: &ZoneNames) -> PolarsResult<Option<TimeZone>>
+        ensures zone { result ≡ opt_zone names.now (option_map (λ text. text.now) zone.entry) }
+    {
+        match zone {
+            Some(text) if !text.is_empty() => some_zone(text, names),
+            _ => Ok(None),
+        }
+    }
+
+    /// `UTC` for its other spellings, none for the empty text, and every other text as it is.
+    pub fn _canonical_timezone_impl(zone: Option<&str>) -> Option<&str>
+        ensures text { option_map (λ text. text.now) result ≡ canonical_text (option_map (λ text. text.now) zone.entry) }
+    {
+        match zone {
+            Some(text) if !text.is_empty() => Some(canonical(text)),
+            _ => None,
+        }
+    }
+
+    /// Whether the name is accepted: `UTC`, one of the `Etc/GMT` names, or one of the names.
+    pub fn validate_time_zone(zone: &str, names: &ZoneNames) -> PolarsResult<()>
+        ensures accepted { result ≡ (if is_accepted names.now zone.now then Ok tt else Err Zone) }
+    {
+        if zone_text::is_accepted(zone, names) {
+            Ok(())
+        } else {
+            Err(PolarsError::Zone)
+        }
+    }
+
+    /// Whether the zones are equal, or one of them is the wildcard.
+    pub fn eq_wildcard_aware(this: &TimeZone, other: &TimeZone) -> bool
+        ensures value { result ≡ eq_wildcard_aware this.now other.now }
+    {
+        this.as_str() == other.as_str() || this.as_str() == "*" || other.as_str() == "*"
+    }
+
+    /// Whether the zones are equal, where none counts as `UTC`.
+    pub fn eq_none_as_utc(this: Option<&TimeZone>, other: Option<&TimeZone>) -> bool
+        ensures value { result ≡ eq_none_as_utc (option_map (λ z. z.now) this.entry) (option_map (λ z. z.now) other.entry) }
+    {
+        name_or_utc(this) == name_or_utc(other)
+    }
+
+    // The zone of a name that has room in it.
+    pub(crate) fn named(name: &str) -> TimeZone
+        requires { length name.now ≤ 64 }
+        ensures name { result ≡ name.now }
+    {
+        let bytes = padded_bytes(name.as_bytes());
+        TimeZone {
+            bytes,
+            len: name.len() as u8,
+        }
+    }
+}
+
+/// The zone of an accepted name.
+pub fn parse_time_zone(zone: &str, names: &ZoneNames) -> PolarsResult<TimeZone>
+    ensures zone { result ≡ ok_or (accepted_name names.now zone.now) Zone }
+{
+    if zone_text::is_accepted(zone, names) {
+        Ok(TimeZone::named(zone))
+    } else {
+        Err(PolarsError::Zone)
+    }
+}
+
+/// The `Etc/GMT` name of a fixed offset, whose sign is the other one. Names that were handed in
+/// don't count.
+pub fn parse_fixed_offset(alloc: Global, zone: &str) -> PolarsResult<PlSmallStr>
+    ensures name { Gives result (ok_or (option_and_then (accepted_name []) (offset_name zone.now)) Zone) }
+{
+    match zone_text::offset_zone(zone.as_bytes()) {
+        Some(named) if zone_text::is_gmt_name(named.as_str()) => PlSmallStr::from_str(
+            alloc,
+            named.as_str(),
+        ),
+        _ => Err(PolarsError::Zone),
+    }
+}
+
+// The zone of a text that isn't empty.
+fn some_zone(text: &str, names: &ZoneNames) -> PolarsResult<Option<TimeZone>>
+    ensures zone { result ≡ ok_or (option_map Some (zone_of names.now text.now)) Zone }
+{
+    match zone_of(text, names) {
+        Some(found) => Ok(Some(found)),
+        None => Err(PolarsError::Zone),
+    }
+}
+
+fn zone_of(text: &str, names: &ZoneNames) -> Option<TimeZone>
+    ensures name { result ≡ zone_of names.now text.now }
+{
+    if text == "*" {
+        return Some(TimeZone::named("*"));
+    }
+    if zone_text::is_utc_spelling(text) {
+        return Some(TimeZone::utc());
+    }
+    if zone_text::is_accepted(text, names) {
+        return Some(TimeZone::named(text));
+    }
+    zone_text::accepted_zone(zone_text::offset_zone(text.as_bytes())?, names)
+}
+
+fn canonical(text: &str) -> &str
+    ensures text { result.now ≡ (if is_utc_spelling text.now then codes "UTC" else text.now) }
+{
+    if zone_text::is_utc_spelling(text) {
+        "UTC"
+    } else {
+        text
+    }
+}
+
+fn name_or_utc(zone: Option<&TimeZone>) -> &str
+    ensures name { result.now ≡ none_as_utc (option_map (λ z. z.now) zone.entry) }
+{
+    match zone {
+        Some(zone) => zone.as_str(),
+        None => "UTC",
+    }
+}
+
+// The bytes of a name, and zeros up to 64.
+fn padded_bytes(name: &[u8]) -> [u8; 64]
+    requires { length name.now ≤ 64 }
+    ensures bytes { result ≡ name.now ++ replicate (64 - length name.now) 0 }
+{
+    let mut bytes = [0; 64];
+    copy_front(&mut bytes, name);
+    bytes
+}
+
+// The name, and what stood behind it.
+fn copy_front(bytes: &mut [u8], name: &[u8])
+    requires { length name.now ≤ length bytes.old }
+    ensures bytes { bytes.new ≡ name.now ++ drop (length name.now) bytes.old }
+{
+    bytes[..name.len()].copy_from_slice(name);
 }
 
 impl PartialEq for TimeZone {
@@ -70,6 +230,14 @@ impl Hash for TimeZone {
 }
 
 impl fmt::Debug for TimeZone {
+    fn fmt<W: fmt::Write>(&self, f: &mut fmt::Formatter<W>) -> fmt::Result {
+        f.write_str(self.as_str())
+    }
+}
+
+impl fmt::Display for TimeZone {
+    ghost output = { λ zone. Some zone };
+
     fn fmt<W: fmt::Write>(&self, f: &mut fmt::Formatter<W>) -> fmt::Result {
         f.write_str(self.as_str())
     }
