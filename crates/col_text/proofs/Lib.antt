@@ -1,5 +1,5 @@
 pub mod NumberLemmas
-pub mod NameLemmas
+pub mod TextLemmas
 pub mod SlotLemmas
 pub mod ExpressionLemmas
 mod KnownValues
