@@ -1,5 +1,5 @@
 -- What operators, scalar forms, changes of unit and shifts of columns answer, want of memory aside.
-use Rattle.std.specs.Prelude.{ℕ, ℤ, List, length, map, Option, Some, None, slice_index_or, Result, Ok, Err, if◌then◌else◌}
+use Rattle.std.specs.Prelude.{ℕ, ℤ, length, map, Option, Some, None, slice_index_or, Result, Ok, Err, if◌then◌else◌}
 use Rattle.std.specs.Option.{option_and_then}
 use Rattle.col_types.specs.DataType.{kind_of}
 use Rattle.col_types.specs.declared.data_type.DataType.{DataType}

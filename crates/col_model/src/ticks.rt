@@ -1,11 +1,19 @@
 // How ticks of one unit become ticks of another.
-ghost use Rattle.std.specs.Prelude.{◌≡◌};
-ghost use Rattle.col_model.specs.Formula.{X, value_of};
+ghost use Rattle.std.specs.Prelude.{◌≡◌, ℤ, pos, Some};
+ghost use Rattle.std.specs.Int.{w32};
+ghost use Rattle.col_types.specs.TimeUnit.{ticks_per_day};
+ghost use Rattle.col_model.specs.Arithmetic.{Signed, word_values, fitting_value, wrapped_value};
+ghost use Rattle.col_model.specs.Formula.{X, Y, value_of};
 ghost use Rattle.col_model.specs.UnitChange.{unit_change, IsProper, in_finer_unit};
-ghost use Rattle.col_model.specs.UnitChange.{datetime_by, duration_by};
+ghost use Rattle.col_model.specs.UnitChange.{datetime_by, duration_by, day_in_unit};
 ghost use Rattle.col_model.specs.UnitChange.{datetime_in_unit, duration_in_unit};
+ghost use Rattle.col_model.specs.UnitChange.{wrapped_in_finer_unit};
+ghost use Rattle.col_model.specs.UnitChange.{wrapped_datetime_by, wrapped_duration_by};
+ghost use Rattle.col_model.specs.CastTable.{day_of, time_of};
 
-use col_types::TimeUnit;
+use col_types::{CastOptions, TimeUnit};
+
+const NANOS_PER_DAY: i64 = 86_400_000_000_000;
 
 /// How one unit stands to another.
 #[derive(Clone, Copy, Debug, PartialEq, Eq)]
@@ -33,7 +41,8 @@ pub fn unit_change(from: TimeUnit, to: TimeUnit) -> UnitChange
 }
 
 fn in_finer_unit(tick: i64, factor: u32) -> Option<i64>
-    ensures value { result ≡ value_of (in_finer_unit factor X) tick tick }
+    ensures left { (y : ℤ) → result ≡ value_of (in_finer_unit factor X) tick y }
+    ensures right { (x : ℤ) → result ≡ value_of (in_finer_unit factor Y) x tick }
 {
     tick.checked_mul(i64::from(factor))
 }
@@ -43,6 +52,8 @@ fn in_finer_unit(tick: i64, factor: u32) -> Option<i64>
 pub fn datetime_by(tick: i64, change: UnitChange) -> Option<i64>
     requires proper { IsProper change }
     ensures value { result ≡ value_of (datetime_by change X) tick tick }
+    ensures left { (y : ℤ) → result ≡ value_of (datetime_by change X) tick y }
+    ensures right { (x : ℤ) → result ≡ value_of (datetime_by change Y) x tick }
 {
     match change {
         UnitChange::Finer(factor) => in_finer_unit(tick, factor),
@@ -56,6 +67,8 @@ pub fn datetime_by(tick: i64, change: UnitChange) -> Option<i64>
 pub fn duration_by(tick: i64, change: UnitChange) -> Option<i64>
     requires proper { IsProper change }
     ensures value { result ≡ value_of (duration_by change X) tick tick }
+    ensures left { (y : ℤ) → result ≡ value_of (duration_by change X) tick y }
+    ensures right { (x : ℤ) → result ≡ value_of (duration_by change Y) x tick }
 {
     match change {
         UnitChange::Finer(factor) => in_finer_unit(tick, factor),
@@ -76,4 +89,92 @@ pub fn duration_in_unit(tick: i64, from: TimeUnit, to: TimeUnit) -> Option<i64>
     ensures value { result ≡ value_of (duration_in_unit from to X) tick tick }
 {
     duration_by(tick, unit_change(from, to))
+}
+
+// ---- days
+
+/// How many ticks a day has.
+pub fn ticks_per_day(unit: TimeUnit) -> i64
+    ensures value { result ≡ pos (ticks_per_day unit) }
+{
+    NANOS_PER_DAY / i64::from(unit.nanos_per_tick())
+}
+
+/// The moment at which a day begins, none where it leaves 64 bits.
+pub fn day_in_unit(day: i64, unit: TimeUnit) -> Option<i64>
+    ensures value { result ≡ value_of (day_in_unit unit X) day day }
+    ensures left { (y : ℤ) → result ≡ value_of (day_in_unit unit X) day y }
+    ensures right { (x : ℤ) → result ≡ value_of (day_in_unit unit Y) x day }
+{
+    day.checked_mul(ticks_per_day(unit))
+}
+
+/// A day number, none where the word of dates doesn't hold it.
+pub fn fitting_day(day: i64) -> Option<i64>
+    ensures value { result ≡ fitting_value (word_values (Signed w32)) day }
+{
+    if i64::from(i32::MIN) <= day && day <= i64::from(i32::MAX) {
+        Some(day)
+    } else {
+        None
+    }
+}
+
+/// A day number, wrapped to the word of dates.
+pub fn wrapped_day(day: i64) -> i64
+    ensures value { result ≡ wrapped_value (Signed w32) day }
+{
+    let low = day.rem_euclid(1 << 32) as u32;
+    i64::from(low.cast_signed())
+}
+
+/// The day of a moment. Where the word of dates doesn't hold it: none, or, where the cast may
+/// overflow, wrapped.
+pub fn day_of(tick: i64, unit: TimeUnit, options: CastOptions) -> Option<i64>
+    ensures value { result ≡ value_of (day_of options unit) tick tick }
+{
+    let day = tick.div_euclid(ticks_per_day(unit));
+    match options {
+        CastOptions::Strict | CastOptions::NonStrict => fitting_day(day),
+        CastOptions::Overflowing => Some(wrapped_day(day)),
+    }
+}
+
+/// The nanoseconds of a moment since its day began.
+pub fn time_of(tick: i64, unit: TimeUnit) -> i64
+    ensures value { Some result ≡ value_of (time_of unit) tick tick }
+{
+    tick.rem_euclid(ticks_per_day(unit)) * i64::from(unit.nanos_per_tick())
+}
+
+// ---- changes of unit that wrap
+
+fn wrapped_in_finer_unit(tick: i64, factor: u32) -> i64
+    ensures value { Some result ≡ value_of (wrapped_in_finer_unit factor X) tick tick }
+{
+    tick.wrapping_mul(i64::from(factor))
+}
+
+/// A moment after a change of unit, as `datetime_by`, but wrapped where it leaves 64 bits.
+pub fn wrapped_datetime_by(tick: i64, change: UnitChange) -> i64
+    requires proper { IsProper change }
+    ensures value { Some result ≡ value_of (wrapped_datetime_by change X) tick tick }
+{
+    match change {
+        UnitChange::Finer(factor) => wrapped_in_finer_unit(tick, factor),
+        UnitChange::Same => tick,
+        UnitChange::Coarser(factor) => tick.div_euclid(i64::from(factor)),
+    }
+}
+
+/// A length of time after a change of unit, as `duration_by`, but wrapped where it leaves 64 bits.
+pub fn wrapped_duration_by(tick: i64, change: UnitChange) -> i64
+    requires proper { IsProper change }
+    ensures value { Some result ≡ value_of (wrapped_duration_by change X) tick tick }
+{
+    match change {
+        UnitChange::Finer(factor) => wrapped_in_finer_unit(tick, factor),
+        UnitChange::Same => tick,
+        UnitChange::Coarser(factor) => tick / i64::from(factor),
+    }
 }

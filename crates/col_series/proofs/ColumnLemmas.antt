@@ -4,22 +4,25 @@ use Rattle.std.specs.List.{list_all}
 use Rattle.std.proofs.lemmas.List.{take_all, length-map}
 use Rattle.col_types.specs.declared.data_type.DataType.{DataType}
 use Rattle.col_model.specs.Value.{integer_slot}
-use Rattle.col_model.specs.Column.{IsValidColumn, is_column_type}
+use Rattle.col_model.specs.Column.{IsValidColumn, is_built_type}
 use Rattle.col_model.specs.ColumnCalls.{first_unfit}
-use Rattle.col_series.specs.Slots.{is_tick_slot, ticks_column}
-use Rattle.col_series.proofs.TickLemmas.{none_unfit, values-ticks}
+use Rattle.col_series.specs.Slots.{is_fit, ticks_column}
+use Rattle.col_series.proofs.TypeLemmas.{none_unfit, values-ticks}
 
--- where no slot is refused, all are ticks and there is room for them
-pub unrefused_fit : (dtype : DataType) (slots : List (Option ℤ)) → is_column_type dtype ≡ true → length slots < 2 ^ 32 → first_unfit dtype slots ≡ None → list_all is_tick_slot slots ≡ true
-unrefused_fit dtype slots typed short none = none_unfit dtype typed 0 slots (rw (take_all (2 ^ 32) slots (omega arith)) at none)
+-- where no slot is refused, all are slots of the type, if there is room for them
+pub unrefused_fit : (dtype : DataType) (slots : List (Option ℤ)) → length slots < 2 ^ 32 → first_unfit dtype slots ≡ None → list_all (is_fit dtype) slots ≡ true
+unrefused_fit dtype slots short none = none_unfit dtype 0 slots (rw (take_all (2 ^ 32) slots (omega arith)) at none)
 
-pub valid_ticks : (name : List ℕ) (dtype : DataType) (ticks : List (Option ℤ)) → is_column_type dtype ≡ true → length ticks < 2 ^ 32 → list_all is_tick_slot ticks ≡ true → IsValidColumn (ticks_column name dtype ticks)
+pub valid_ticks : (name : List ℕ) (dtype : DataType) (ticks : List (Option ℤ)) → is_built_type dtype ≡ true → length ticks < 2 ^ 32 → list_all (is_fit dtype) ticks ≡ true → IsValidColumn (ticks_column name dtype ticks)
 valid_ticks name dtype ticks typed short fit = record {
   short = rw (length-map ticks integer_slot) short;
   typed = typed;
-  values = values-ticks dtype typed ticks ∙ fit;
+  values = values-ticks dtype ticks ∙ fit;
   sorted = refl;
 }
 
-pub ticks_fit : (name : List ℕ) (dtype : DataType) (ticks : List (Option ℤ)) → IsValidColumn (ticks_column name dtype ticks) → list_all is_tick_slot ticks ≡ true
-ticks_fit name dtype ticks valid = sym (values-ticks dtype valid.typed ticks) ∙ valid.values
+pub ticks_fit : (name : List ℕ) (dtype : DataType) (ticks : List (Option ℤ)) → IsValidColumn (ticks_column name dtype ticks) → list_all (is_fit dtype) ticks ≡ true
+ticks_fit name dtype ticks valid = sym (values-ticks dtype ticks) ∙ valid.values
+
+pub ticks_short : (name : List ℕ) (dtype : DataType) (ticks : List (Option ℤ)) → IsValidColumn (ticks_column name dtype ticks) → length ticks < 2 ^ 32
+ticks_short name dtype ticks valid = rw (length-map ticks integer_slot) at valid.short

@@ -1,4 +1,7 @@
-pub mod TickLemmas
-pub mod CastLemmas
+pub mod TypeLemmas
 pub mod ColumnLemmas
+pub mod SlotLemmas
+pub mod RowLemmas
+pub mod CastLemmas
+pub mod UnitLemmas
 pub mod LawLemmas

@@ -1,4 +1,6 @@
 pub mod Seen
-pub mod CastRow
 pub mod Slots
+pub mod TickRow
+pub mod CastRow
+pub mod Shift
 pub mod Laws

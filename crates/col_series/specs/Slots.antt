@@ -1,4 +1,4 @@
--- Slots of ticks: as a column's slots, under the cast table, and which are refused.
+-- Slots of ticks: as a column's slots, and which of them a column can have.
 use Rattle.std.specs.Prelude.{ℕ, ℤ, Bool, true, List, map, Option, Some, None, Result}
 use Rattle.std.specs.Int.{w64}
 use Rattle.col_types.specs.declared.data_type.DataType.{DataType}
@@ -7,13 +7,17 @@ use Rattle.col_types.specs.declared.cast_options.CastOptions.{CastOptions}
 use Rattle.col_types.specs.declared.error.PolarsError.{PolarsError}
 use Rattle.col_model.specs.Arithmetic.{is_within, Signed, word_values}
 use Rattle.col_model.specs.Value.{Value, integer_slot}
-use Rattle.col_model.specs.Column.{Column}
+use Rattle.col_model.specs.Column.{Column, is_slot_of}
 use Rattle.col_model.specs.CastTable.{CastRule, cast_rule}
 use Rattle.col_model.specs.ColumnCalls.{unless_refused, cast_refusal, cast_slot}
 
 -- the column of ticks, with no claim on their order
 abbrev pub ticks_column : List ℕ → DataType → List (Option ℤ) → Column
 ticks_column name dtype ticks = record { name = name; dtype = dtype; slots = map integer_slot ticks; flag = Not }
+
+-- whether the slot is null or a value of the type
+abbrev pub is_fit : DataType → Option ℤ → Bool
+is_fit dtype slot = is_slot_of dtype (integer_slot slot)
 
 -- whether the slot is null or a value of 64 bits
 abbrev pub is_tick_slot : Option ℤ → Bool

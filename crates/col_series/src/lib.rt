@@ -5,13 +5,16 @@ mod any_value;
 mod cast;
 mod laws;
 mod series;
+mod shift;
 mod slots;
 #[cfg(test)]
 mod tests;
+mod tick_row;
+mod unit_row;
 
 pub use any_value::AnyValue;
 pub use col_types::{
-    CastOptions, DataType, Kind, PlSmallStr, PolarsError, PolarsResult, TimeUnit, TimeZone,
+    CastOptions, DataType, Kind, OpName, PlSmallStr, PolarsError, PolarsResult, TimeUnit, TimeZone,
 };
-pub use laws::own_type_keeps_column;
+pub use laws::{own_type_keeps_column, times_lie_in_the_day};
 pub use series::Series;

@@ -1,15 +1,23 @@
 // A column: a name, a type and slots.
-ghost use Rattle.std.specs.Prelude.{◌≡◌, ◌<◌, true, length};
+ghost use Rattle.std.specs.Prelude.{◌≡◌, ◌<◌, ◌^◌, true, length, map};
+ghost use Rattle.std.specs.List.{list_all};
 ghost use Rattle.col_types.specs.PolarsError.{Gives};
-ghost use Rattle.col_model.specs.Value.{integer_slot};
-ghost use Rattle.col_model.specs.Column.{IsValidColumn, is_column_type};
-ghost use Rattle.col_model.specs.ColumnCalls.{column_of, cast_of};
 ghost use Rattle.col_types.specs.declared.cast_options.CastOptions.TheVariants.{Strict, NonStrict};
+ghost use Rattle.col_model.specs.Value.{integer_slot};
+ghost use Rattle.col_model.specs.Column.{IsValidColumn, is_built_type};
+ghost use Rattle.col_model.specs.ColumnCalls.{column_of, cast_of, is_built_target};
+ghost use Rattle.col_model.specs.OperatorCalls.{in_unit_of, shifted};
 ghost use Rattle.col_series.specs.Seen.{value_seen, slot_seen, seen_by, seen_at};
+ghost use Rattle.col_series.specs.Slots.{is_fit, ticks_column};
 
 use crate::cast::cast_slots;
+use crate::shift::shifted_slots;
 use crate::slots::{ROW_LIMIT, first_unfit, ticks};
-use crate::{AnyValue, CastOptions, DataType, PlSmallStr, PolarsError, PolarsResult};
+use crate::tick_row::changed_list;
+use crate::unit_row::unit_row;
+use crate::{
+    AnyValue, CastOptions, DataType, OpName, PlSmallStr, PolarsError, PolarsResult, TimeUnit,
+};
 use std::alloc::Global;
 use std::marker::Model;
 use std::rc::Rc;
@@ -48,7 +56,7 @@ impl Series {
         dtype: &DataType,
         slots: &[Option<i128>],
     ) -> PolarsResult<Series>
-        requires column_type { is_column_type dtype.now ≡ true }
+        requires built_type { is_built_type dtype.now ≡ true }
         ensures column { Gives result (column_of name dtype.now slots.now) }
     {
         match first_unfit(dtype, slots) {
@@ -61,12 +69,23 @@ impl Series {
             });
         }
         let ticks = ticks(alloc, slots)?;
+        Series::from_ticks(alloc, name, dtype.clone_flat(), ticks)
+    }
+
+    /// A column of these ticks, with no claim on their order. The one refusal is `NoMemory`.
+    pub fn from_ticks(
+        alloc: Global,
+        name: PlSmallStr,
+        dtype: DataType,
+        ticks: Vec<Option<i64>>,
+    ) -> PolarsResult<Series>
+        requires built_type { is_built_type dtype ≡ true }
+        requires fit { list_all (is_fit dtype) ticks.items ≡ true }
+        requires short { length ticks.items < 2 ^ 32 }
+        ensures column { Gives result (Ok (ticks_column name dtype ticks.items)) }
+    {
         let slots = Rc::new(alloc, ticks)?;
-        Ok(Series {
-            name,
-            dtype: dtype.clone_flat(),
-            slots,
-        })
+        Ok(Series { name, dtype, slots })
     }
 
     /// The name.
@@ -95,6 +114,15 @@ impl Series {
         ensures valid { IsValidColumn self.now }
     {
         let _ = &self.slots;
+    }
+
+    /// The slots as they are kept: null or a tick, which is a value of the type.
+    pub fn ticks(&self) -> &[Option<i64>]
+        ensures ticks { map integer_slot result.now ≡ self.now.slots }
+        ensures fit { list_all (is_fit self.now.dtype) result.now ≡ true }
+        ensures short { length result.now < 2 ^ 32 }
+    {
+        self.slots.as_slice()
     }
 
     /// The value of a row. Refused at an index past the rows (`OutOfBounds`). It takes no memory.
@@ -130,9 +158,10 @@ impl Series {
     }
 
     /// The column in another type; a value that has no room there becomes null. Refused where no
-    /// cast leads to the type and a slot is valid (`CastPair`).
+    /// column can have the type (`BadType`), then where no cast leads to it and a slot is valid
+    /// (`CastPair`).
     pub fn cast(&self, alloc: Global, dtype: &DataType) -> PolarsResult<Series>
-        requires column_type { is_column_type dtype.now ≡ true }
+        requires built_target { is_built_target dtype.now ≡ true }
         ensures column { Gives result (cast_of self.now dtype.now NonStrict) }
     {
         self.cast_with_options(alloc, dtype, CastOptions::NonStrict)
@@ -141,23 +170,27 @@ impl Series {
     /// As `cast`, and then refused where a valid slot would become null (`Strict`, with the least
     /// such row).
     pub fn strict_cast(&self, alloc: Global, dtype: &DataType) -> PolarsResult<Series>
-        requires column_type { is_column_type dtype.now ≡ true }
+        requires built_target { is_built_target dtype.now ≡ true }
         ensures column { Gives result (cast_of self.now dtype.now Strict) }
     {
         self.cast_with_options(alloc, dtype, CastOptions::Strict)
     }
 
-    /// The column in another type, by the options: `Strict` as `strict_cast`, the others as `cast`.
+    /// The column in another type, by the options: `Strict` as `strict_cast`, `NonStrict` as `cast`,
+    /// and `Overflowing` as `cast`, but a day that the word of dates has no room for wraps.
     pub fn cast_with_options(
         &self,
         alloc: Global,
         dtype: &DataType,
         options: CastOptions,
     ) -> PolarsResult<Series>
-        requires column_type { is_column_type dtype.now ≡ true }
+        requires built_target { is_built_target dtype.now ≡ true }
         ensures column { Gives result (cast_of self.now dtype.now options) }
     {
-        let slots = cast_slots(alloc, &self.dtype, dtype, options, &self.slots)?;
+        let slots = match cast_slots(alloc, &self.dtype, dtype, options, &self.slots) {
+            Ok(slots) => slots,
+            Err(refusal) => return Err(refusal),
+        };
         let name = self.name.clone()?;
         Ok(Series {
             name,
@@ -165,18 +198,50 @@ impl Series {
             slots,
         })
     }
+
+    /// The column in another unit: moments round down and lengths of time towards zero in a coarser
+    /// one, and in a finer one what leaves 64 bits wraps. Refused where the type has no unit
+    /// (`Types`).
+    pub fn cast_time_unit(&self, alloc: Global, unit: TimeUnit) -> PolarsResult<Series>
+        ensures column { Gives result (in_unit_of self.now unit) }
+    {
+        match unit_row(&self.dtype, unit) {
+            None => Err(PolarsError::Types {
+                op: OpName::Coerce,
+                left: self.dtype.kind(),
+                right: self.dtype.kind(),
+            }),
+            Some((dtype, row)) => {
+                let slots = changed_list(alloc, row, &self.slots)?;
+                let name = self.name.clone()?;
+                Ok(Series { name, dtype, slots })
+            }
+        }
+    }
+
+    /// The column with each slot so many rows further down, or up for a negative number. A row that
+    /// none moves to is null.
+    pub fn shift(&self, alloc: Global, periods: i64) -> PolarsResult<Series>
+        ensures column { Gives result (Ok (shifted self.now periods)) }
+    {
+        let ticks = shifted_slots(alloc, periods, self.slots.as_slice())?;
+        let name = self.name.clone()?;
+        Series::from_ticks(alloc, name, self.dtype.clone_flat(), ticks)
+    }
 }
 
 /// What a slot shows in a column of the type.
 fn value_of<'a>(dtype: &'a DataType, slot: Option<i64>) -> AnyValue<'a>
-    requires column_type { is_column_type dtype.now ≡ true }
+    requires fit { is_fit dtype.now slot ≡ true }
     ensures value { value_seen result ≡ slot_seen dtype.now (integer_slot slot) }
 {
     match (dtype, slot) {
+        (DataType::Date, Some(day)) => AnyValue::Date(day as i32),
         (DataType::Datetime(unit, zone), Some(tick)) => {
             AnyValue::Datetime(tick, *unit, zone.as_ref())
         }
         (DataType::Duration(unit), Some(tick)) => AnyValue::Duration(tick, *unit),
+        (DataType::Time, Some(nanos)) => AnyValue::Time(nanos),
         _ => AnyValue::Null,
     }
 }

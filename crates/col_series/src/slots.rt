@@ -1,9 +1,9 @@
 // The slots of a new column.
 ghost use Rattle.std.specs.Prelude.{◌≡◌, ◌≤◌, ◌^◌, true, length, take, IfOk};
 ghost use Rattle.std.specs.List.{list_all};
-ghost use Rattle.std.specs.Int.{w64};
+ghost use Rattle.std.specs.Int.{w32, w64};
 ghost use Rattle.col_model.specs.Arithmetic.{is_within, Signed, word_values};
-ghost use Rattle.col_model.specs.Column.{is_column_type};
+ghost use Rattle.col_model.specs.Column.{is_built_type, day_values};
 ghost use Rattle.col_model.specs.ColumnCalls.{is_unfit, first_unfit};
 ghost use Rattle.col_series.specs.Slots.{is_tick_slot};
 
@@ -13,6 +13,15 @@ use std::alloc::{AllocError, Global};
 /// A column has fewer rows.
 pub(crate) const ROW_LIMIT: usize = 1 << 32;
 
+const NANOS_PER_DAY: i128 = 86_400_000_000_000;
+
+/// Whether the word of dates holds the value.
+fn is_day(value: i128) -> bool
+    ensures within { result ≡ is_within (word_values (Signed w32)) value }
+{
+    i128::from(i32::MIN) <= value && value <= i128::from(i32::MAX)
+}
+
 /// Whether 64 bits hold the value.
 fn is_tick(value: i128) -> bool
     ensures within { result ≡ is_within (word_values (Signed w64)) value }
@@ -20,13 +29,22 @@ fn is_tick(value: i128) -> bool
     i128::from(i64::MIN) <= value && value <= i128::from(i64::MAX)
 }
 
+/// Whether the value is a time of the day, in nanoseconds.
+fn is_time(value: i128) -> bool
+    ensures within { result ≡ is_within day_values value }
+{
+    0 <= value && value < NANOS_PER_DAY
+}
+
 /// Whether the slot may not stand in a column of the type.
 fn is_unfit(dtype: &DataType, slot: Option<i128>) -> bool
-    requires column_type { is_column_type dtype.now ≡ true }
+    requires built_type { is_built_type dtype.now ≡ true }
     ensures unfit { result ≡ is_unfit dtype.now slot }
 {
     match (dtype, slot) {
         (_, None) => false,
+        (DataType::Date, Some(value)) => !is_day(value),
+        (DataType::Time, Some(value)) => !is_time(value),
         (DataType::Datetime(_, _) | DataType::Duration(_), Some(value)) => !is_tick(value),
         _ => unreachable!(),
     }
@@ -46,7 +64,7 @@ fn front(slots: &[Option<i128>]) -> &[Option<i128>]
 
 /// The first row whose slot isn't a value of the type; rows past 2^32 are not looked at.
 pub(crate) fn first_unfit(dtype: &DataType, slots: &[Option<i128>]) -> Option<u32>
-    requires column_type { is_column_type dtype.now ≡ true }
+    requires built_type { is_built_type dtype.now ≡ true }
     ensures row { result ≡ first_unfit dtype.now slots.now }
 {
     let front = front(slots);

@@ -1,6 +1,6 @@
 // Columns and casts at values known by hand.
 ghost use Rattle.std.specs.Prelude.{◌≡◌, true};
-ghost use Rattle.col_model.specs.Column.{is_column_type};
+ghost use Rattle.col_model.specs.Column.{is_built_type};
 
 use super::*;
 use std::alloc::Global;
@@ -13,7 +13,7 @@ const MICROS: TimeUnit = TimeUnit::Microseconds;
 const MILLIS: TimeUnit = TimeUnit::Milliseconds;
 
 fn column(alloc: Global, dtype: &DataType, slots: &[Option<i128>]) -> PolarsResult<Series>
-    requires column_type { is_column_type dtype.now ≡ true }
+    requires built_type { is_built_type dtype.now ≡ true }
 {
     let name = PlSmallStr::from_str(alloc, "start")?;
     Series::from_slots(alloc, name, dtype, slots)
@@ -34,8 +34,8 @@ fn cast_tick(
     to: &DataType,
     value: i128,
 ) -> PolarsResult<Option<i64>>
-    requires from { is_column_type from.now ≡ true }
-    requires to { is_column_type to.now ≡ true }
+    requires from { is_built_type from.now ≡ true }
+    requires to { is_built_type to.now ≡ true }
 {
     let column = column(alloc, from, &[Some(value), None])?;
     let cast = column.cast(alloc, to)?;
@@ -48,7 +48,7 @@ fn built(alloc: Global, slots: &[Option<i128>]) -> PolarsResult<usize> {
 }
 
 fn strictly(alloc: Global, to: &DataType, slots: &[Option<i128>]) -> PolarsResult<usize>
-    requires to { is_column_type to.now ≡ true }
+    requires to { is_built_type to.now ≡ true }
 {
     let column = column(alloc, &DataType::Duration(MILLIS), slots)?;
     let cast = column.strict_cast(alloc, to)?;
