@@ -7,7 +7,7 @@ use Rattle.std.proofs.lemmas.Slice.Eq.{bytes_eq-Decides}
 use Rattle.col_types.specs.declared.time_unit.TimeUnit.{TimeUnit}
 use Rattle.col_types.specs.declared.time_unit.TimeUnit.TheVariants.{Nanoseconds, Microseconds, Milliseconds}
 use Rattle.col_types.specs.declared.data_type.DataType.{DataType, Int8, Int16, Int32, Int64, Int128, UInt8, UInt16, UInt32, UInt64, Boolean, String, Binary, Date, Datetime, Duration, Time, Decimal, List', Array'}
-use Rattle.col_types.specs.DataType.{shape_of, same_type, same_unit, same_zone, same_number}
+use Rattle.col_types.specs.DataType.{shape_of, leaf_of, with_leaf, same_type, same_unit, same_zone, same_number}
 
 -- Equal lengths of a tick are of one unit.
 unit_told : (u v : TimeUnit) → same_unit u v ≡ true → u ≡ v
@@ -122,3 +122,25 @@ same_type-Decides a b =
     let back : shape_of a ≡ shape_of b → same_type (shape_of a) (shape_of b) ≡ true =
     λ e. ap (λ s. same_type s (shape_of b)) e ∙ same_type-itself (shape_of b) in
     (same_type-shape_of a b, λ e. sym (same_type-of_shapes a b) ∙ back e)
+
+-- A type is its own nesting over its own leaf.
+pub own_leaf : (a : DataType) → with_leaf a (leaf_of a) ≡ a
+own_leaf (List' p a) = ap (List' p) (own_leaf a)
+own_leaf (Array' p a m) = ap (λ leaf. Array' p leaf m) (own_leaf a)
+own_leaf Int8 = refl
+own_leaf Int16 = refl
+own_leaf Int32 = refl
+own_leaf Int64 = refl
+own_leaf Int128 = refl
+own_leaf UInt8 = refl
+own_leaf UInt16 = refl
+own_leaf UInt32 = refl
+own_leaf UInt64 = refl
+own_leaf Boolean = refl
+own_leaf String = refl
+own_leaf Binary = refl
+own_leaf Date = refl
+own_leaf Time = refl
+own_leaf (Datetime u z) = refl
+own_leaf (Duration u) = refl
+own_leaf (Decimal p s) = refl

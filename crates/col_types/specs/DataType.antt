@@ -70,6 +70,25 @@ leaf_of (List' place leaf) = leaf_of leaf
 leaf_of (Array' place leaf width) = leaf_of leaf
 leaf_of dtype = dtype
 
+-- The same nesting over another leaf.
+abbrev pub with_leaf : DataType → DataType → DataType
+with_leaf (List' place inner) leaf = List' place (with_leaf inner leaf)
+with_leaf (Array' place inner width) leaf = Array' place (with_leaf inner leaf) width
+with_leaf _ leaf = leaf
+
+-- The integer that stores a type that isn't nested, and the type itself where it needs none.
+abbrev pub physical_leaf : DataType → DataType
+physical_leaf Date = Int32
+physical_leaf (Datetime unit name) = Int64
+physical_leaf (Duration unit) = Int64
+physical_leaf Time = Int64
+physical_leaf (Decimal precision scale) = Int128
+physical_leaf dtype = dtype
+
+-- The type that stores a type, under the same nesting.
+abbrev pub physical_of : DataType → DataType
+physical_of dtype = with_leaf dtype (physical_leaf (leaf_of dtype))
+
 -- Whether the zone is the wildcard, which stands for any zone.
 abbrev pub is_wildcard : Option (List ℕ) → Bool
 is_wildcard None = false

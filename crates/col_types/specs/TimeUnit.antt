@@ -1,7 +1,9 @@
 -- The names of units, and how they stand to each other.
-use Rattle.std.specs.Prelude.{ℕ, List, codes, ◌/◌, nat_lt, if◌then◌else◌}
+use Rattle.std.specs.Prelude.{ℕ, List, ◌∷◌, codes, ◌/◌, nat_lt, if◌then◌else◌}
 use Rattle.col_types.specs.declared.time_unit.TimeUnit.{TimeUnit}
 use Rattle.col_types.specs.declared.time_unit.TimeUnit.TheVariants.{Nanoseconds, Microseconds, Milliseconds}
+use Rattle.col_types.specs.declared.time_unit.ArrowTimeUnit.{ArrowTimeUnit}
+use Rattle.col_types.specs.declared.time_unit.ArrowTimeUnit.TheVariants as arrow
 
 -- The name in ASCII, as bytes.
 abbrev pub unit_name : TimeUnit → List ℕ
@@ -22,3 +24,22 @@ ticks_per_day unit = 86400000000000 / nanos_per_tick unit
 -- The unit of the two whose tick lasts longer.
 abbrev pub coarser_unit : TimeUnit → TimeUnit → TimeUnit
 coarser_unit u v = if nat_lt (nanos_per_tick u) (nanos_per_tick v) then v else u
+
+-- The name as it is printed, as bytes: the micro sign is the Greek letter.
+abbrev pub unit_symbol : TimeUnit → List ℕ
+unit_symbol Nanoseconds = codes "ns"
+unit_symbol Microseconds = 0xCE ∷ 0xBC ∷ codes "s"
+unit_symbol Milliseconds = codes "ms"
+
+-- The unit of that name that Arrow has.
+abbrev pub to_arrow : TimeUnit → ArrowTimeUnit
+to_arrow Nanoseconds = arrow.Nanosecond
+to_arrow Microseconds = arrow.Microsecond
+to_arrow Milliseconds = arrow.Millisecond
+
+-- The unit for one that Arrow has: milliseconds for seconds too.
+abbrev pub from_arrow : ArrowTimeUnit → TimeUnit
+from_arrow arrow.Second = Milliseconds
+from_arrow arrow.Millisecond = Milliseconds
+from_arrow arrow.Microsecond = Microseconds
+from_arrow arrow.Nanosecond = Nanoseconds

@@ -72,7 +72,8 @@ hour_text hour = if nat_lt hour 10 then digit hour ∷ [] else digit 1 ∷ digit
 
 -- The name for an offset of so many hours, behind `UTC` or before it: the sign is turned.
 abbrev pub gmt_name : Bool → ℕ → List ℕ
-gmt_name behind hour = codes "Etc/GMT" ++ ((if behind then codes "+" else codes "-") ++ hour_text hour)
+gmt_name behind hour =
+    codes "Etc/GMT" ++ ((if behind then codes "+" else codes "-") ++ hour_text hour)
 
 -- The number that two digits write.
 abbrev pub two_digits : ℕ → ℕ → ℕ
@@ -106,11 +107,23 @@ zone_of names text =
     else (if is_accepted names text then Some text
     else option_and_then (accepted_name names) (offset_name text)))
 
--- The zone of a text or of none: the empty text gives none, and a text that names no zone is refused.
+-- The zone of a text or of none: the empty text gives none, and one that names no zone is refused.
 abbrev pub opt_zone : List (List ℕ) → Option (List ℕ) → Result (Option (List ℕ)) PolarsError
 opt_zone names None = Ok None
 opt_zone names (Some []) = Ok None
 opt_zone names (Some (byte ∷ text)) = ok_or (option_map Some (zone_of names (byte ∷ text))) Zone
+
+-- The name, which is refused where it isn't accepted.
+abbrev pub parsed_zone : List (List ℕ) → List ℕ → Result (List ℕ) PolarsError
+parsed_zone names name = ok_or (accepted_name names name) Zone
+
+-- Whether the name is refused so.
+abbrev pub validated_zone : List (List ℕ) → List ℕ → Result (Unit {0}) PolarsError
+validated_zone names name = if is_accepted names name then Ok tt else Err Zone
+
+-- The name for a fixed offset, where it is accepted without names that were handed in.
+abbrev pub parsed_offset : List ℕ → Result (List ℕ) PolarsError
+parsed_offset text = ok_or (option_and_then (accepted_name []) (offset_name text)) Zone
 
 -- The text with the other spellings of `UTC` turned into it, and none for the empty one.
 abbrev pub canonical_text : Option (List ℕ) → Option (List ℕ)

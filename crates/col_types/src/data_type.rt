@@ -1,6 +1,7 @@
 // The types of columns.
 ghost use Rattle.std.specs.Prelude.{◌≡◌, false};
-ghost use Rattle.col_types.specs.DataType.{kind_of, is_nested, same_type, same_unit, same_zone, same_number};
+ghost use Rattle.col_types.specs.DataType.{kind_of, is_nested};
+ghost use Rattle.col_types.specs.DataType.{same_type, same_unit, same_zone, same_number};
 
 use crate::{TimeUnit, TimeZone};
 
@@ -144,7 +145,7 @@ fn same_unit(left: TimeUnit, right: TimeUnit) -> bool
     left.nanos_per_tick() == right.nanos_per_tick()
 }
 
-fn same_zone(left: &Option<TimeZone>, right: &Option<TimeZone>) -> bool
+pub(crate) fn same_zone(left: &Option<TimeZone>, right: &Option<TimeZone>) -> bool
     ensures same { result ≡ same_zone left.now right.now }
 {
     match (left, right) {

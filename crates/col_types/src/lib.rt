@@ -6,8 +6,11 @@ mod data_type;
 mod error;
 mod field;
 mod is_sorted;
+mod laws;
+mod nested_type;
 mod operator;
 mod small_str;
+mod supertype;
 #[cfg(test)]
 mod tests;
 mod time_unit;
@@ -21,9 +24,13 @@ pub use data_type::{DataType, Kind};
 pub use error::{PolarsError, PolarsResult};
 pub use field::Field;
 pub use is_sorted::IsSorted;
+pub use laws::{
+    reverse_flag, units_are_ordered, units_translate, zone_equalities, zone_names_are_canonical,
+};
 pub use operator::{BinOp, OpName, ScalarOp};
 pub use small_str::PlSmallStr;
-pub use time_unit::{ArrowTimeUnit, TimeUnit};
+pub use supertype::{flat_supertype, try_get_supertype};
+pub use time_unit::{ArrowTimeUnit, TimeUnit, get_time_units};
 pub use time_zone::{TimeZone, parse_fixed_offset, parse_time_zone};
 pub use zone_names::ZoneNames;
 

@@ -4,6 +4,9 @@ use std::alloc::Global;
 use std::fmt;
 use std::test::Fail;
 
+mod types;
+mod zones;
+
 fn printed<T: fmt::Display + Drop>(alloc: Global, value: T) -> Result<String, Fail> {
     Ok(format!(in alloc; "{value}")?)
 }
@@ -60,6 +63,58 @@ fn units_have_names_and_lengths(rt: HostRuntime) {
         assert_eq!(rt; given.to_ascii(), name, "at {name}");
         assert_eq!(rt; given.nanos_per_tick(), nanos, "at {name}");
     }
+}
+
+#[test]
+fn units_print_and_translate(rt: HostRuntime) -> Result<(), Fail> {
+    for (given, symbol, arrow) in [
+        (TimeUnit::Nanoseconds, "ns", ArrowTimeUnit::Nanosecond),
+        (
+            TimeUnit::Microseconds,
+            "\u{3bc}s",
+            ArrowTimeUnit::Microsecond,
+        ),
+        (TimeUnit::Milliseconds, "ms", ArrowTimeUnit::Millisecond),
+    ] {
+        let text = printed(rt.alloc(), given)?;
+        let back: TimeUnit = (&arrow).into();
+        assert_eq!(rt; text.as_str(), symbol, "at {symbol}");
+        assert_eq!(rt; given.to_arrow(), arrow, "at {symbol}");
+        assert_eq!(rt; back, given, "at {symbol}");
+    }
+    let seconds: TimeUnit = (&ArrowTimeUnit::Second).into();
+    assert_eq!(rt; seconds, TimeUnit::Milliseconds);
+    Ok(())
+}
+
+#[test]
+fn coarser_units_are_greater(rt: HostRuntime) {
+    let (ns, us, ms) = (
+        TimeUnit::Nanoseconds,
+        TimeUnit::Microseconds,
+        TimeUnit::Milliseconds,
+    );
+    assert!(rt; ns < us && us < ms);
+    assert_eq!(rt; get_time_units(ns, ms), ms);
+    assert_eq!(rt; get_time_units(us, ns), us);
+    assert_eq!(rt; get_time_units(us, us), us);
+}
+
+#[test]
+fn options_and_orders_turn(rt: HostRuntime) {
+    for (given, is_strict, wrapped) in [
+        (CastOptions::Strict, true, false),
+        (CastOptions::NonStrict, false, false),
+        (CastOptions::Overflowing, false, true),
+    ] {
+        let switches: CastOptionsImpl = given.into();
+        assert_eq!(rt; given.is_strict(), is_strict);
+        assert_eq!(rt; switches.wrapped, wrapped);
+        assert_eq!(rt; switches.partial, false);
+    }
+    assert_eq!(rt; IsSorted::Ascending.reverse(), IsSorted::Descending);
+    assert_eq!(rt; IsSorted::Descending.reverse(), IsSorted::Ascending);
+    assert_eq!(rt; IsSorted::Not.reverse(), IsSorted::Not);
 }
 
 #[test]

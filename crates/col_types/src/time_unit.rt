@@ -1,6 +1,9 @@
 // The units of ticks.
-ghost use Rattle.std.specs.Prelude.{◌≡◌};
-ghost use Rattle.col_types.specs.TimeUnit.{unit_name, nanos_per_tick};
+ghost use Rattle.std.specs.Prelude.{◌≡◌, Some};
+ghost use Rattle.col_types.specs.TimeUnit.{unit_name, unit_symbol, nanos_per_tick};
+ghost use Rattle.col_types.specs.TimeUnit.{coarser_unit, to_arrow, from_arrow};
+
+use std::fmt;
 
 /// The length of a tick, finest first.
 #[derive(Clone, Copy, Debug, PartialEq, Eq, PartialOrd, Hash)]
@@ -41,4 +44,52 @@ impl TimeUnit {
             TimeUnit::Milliseconds => 1_000_000,
         }
     }
+    /// Arrow's unit of that name.
+    pub fn to_arrow(self) -> ArrowTimeUnit
+        ensures unit { result ≡ to_arrow self }
+    {
+        match self {
+            TimeUnit::Nanoseconds => ArrowTimeUnit::Nanosecond,
+            TimeUnit::Microseconds => ArrowTimeUnit::Microsecond,
+            TimeUnit::Milliseconds => ArrowTimeUnit::Millisecond,
+        }
+    }
+
+    // The name as it is printed: in Greek letters where it is not in ASCII.
+    fn symbol(self) -> &'static str
+        ensures symbol { result.now ≡ unit_symbol self }
+    {
+        match self {
+            TimeUnit::Nanoseconds => "ns",
+            TimeUnit::Microseconds => "μs",
+            TimeUnit::Milliseconds => "ms",
+        }
+    }
+}
+
+impl fmt::Display for TimeUnit {
+    ghost output = { λ unit. Some (unit_symbol unit) };
+
+    fn fmt<W: fmt::Write>(&self, f: &mut fmt::Formatter<W>) -> fmt::Result {
+        f.write_str(self.symbol())
+    }
+}
+
+impl From<&ArrowTimeUnit> for TimeUnit {
+    ghost from_gives = { λ given unit. unit ≡ from_arrow given.now };
+
+    fn from(given: &ArrowTimeUnit) -> Self {
+        match given {
+            ArrowTimeUnit::Nanosecond => TimeUnit::Nanoseconds,
+            ArrowTimeUnit::Microsecond => TimeUnit::Microseconds,
+            ArrowTimeUnit::Millisecond | ArrowTimeUnit::Second => TimeUnit::Milliseconds,
+        }
+    }
+}
+
+/// The coarser of two units.
+pub fn get_time_units(left: TimeUnit, right: TimeUnit) -> TimeUnit
+    ensures unit { result ≡ coarser_unit left right }
+{
+    if left < right { right } else { left }
 }

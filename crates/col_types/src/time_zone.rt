@@ -1,6 +1,7 @@
 // A zone's name, kept in place: the bytes of the name, and zeros after it.
-ghost use Rattle.std.specs.Prelude.{◌≡◌, ◌≤◌, ◌-◌, ◌++◌, nat_eq, length, drop, replicate, codes, Some, None, Ok, Err, option_map, option_and_then, [], if◌then◌else◌};
-ghost use Rattle.std.specs.Option.{ok_or};
+ghost use Rattle.std.specs.Prelude.{◌≡◌, ◌≤◌, ◌-◌, ◌++◌, nat_eq, length, drop, replicate, codes};
+ghost use Rattle.std.specs.Prelude.{Some, option_map, if◌then◌else◌};
+ghost use Rattle.std.specs.Option.{ok_or, option_copied};
 ghost use Rattle.std.specs.Cmp.{partial_equiv_from_equiv};
 ghost use Rattle.std.specs.Cmp.Lexicographic.{pointwise, nat_list_eq_equiv};
 ghost use Rattle.std.specs.Cmp.Rules.{hashing};
@@ -8,7 +9,8 @@ ghost use Rattle.std.specs.Hash as fed;
 ghost use Rattle.std.proofs.Common.{rules};
 ghost use Rattle.col_types.specs.declared.error.PolarsError.TheVariants.{Zone};
 ghost use Rattle.col_types.specs.PolarsError.{Gives};
-ghost use Rattle.col_types.specs.Zones.{zone_of, opt_zone, canonical_text, is_accepted, accepted_name, offset_name, is_utc_spelling};
+ghost use Rattle.col_types.specs.Zones.{zone_of, opt_zone, canonical_text, is_utc_spelling};
+ghost use Rattle.col_types.specs.Zones.{parsed_zone, validated_zone, parsed_offset};
 ghost use Rattle.col_types.specs.Zones.{eq_wildcard_aware, eq_none_as_utc, none_as_utc};
 
 use crate::{PlSmallStr, PolarsError, PolarsResult, ZoneNames, zone_text};
@@ -62,7 +64,7 @@ impl TimeZone {
     /// `+00:00`, `00:00` and `utc` give `UTC`; an accepted name gives the zone of that name; a fixed
     /// offset gives its `Etc/GMT` zone, where that name is accepted. Every other text is refused.
     pub fn opt_try_new(zone: Option<&str>, names: &ZoneNames) -> PolarsResult<Option<TimeZone>>
-        ensures zone { result ≡ opt_zone names.now (option_map (λ text. text.now) zone.entry) }
+        ensures zone { result ≡ opt_zone names.now (option_copied zone.entry) }
     {
         match zone {
             Some(text) if !text.is_empty() => some_zone(text, names),
@@ -72,7 +74,7 @@ impl TimeZone {
 
     /// `UTC` for its other spellings, none for the empty text, and every other text as it is.
     pub fn _canonical_timezone_impl(zone: Option<&str>) -> Option<&str>
-        ensures text { option_map (λ text. text.now) result ≡ canonical_text (option_map (λ text. text.now) zone.entry) }
+        ensures text { option_copied result ≡ canonical_text (option_copied zone.entry) }
     {
         match zone {
             Some(text) if !text.is_empty() => Some(canonical(text)),
@@ -82,7 +84,7 @@ impl TimeZone {
 
     /// Whether the name is accepted: `UTC`, one of the `Etc/GMT` names, or one of the names.
     pub fn validate_time_zone(zone: &str, names: &ZoneNames) -> PolarsResult<()>
-        ensures accepted { result ≡ (if is_accepted names.now zone.now then Ok tt else Err Zone) }
+        ensures accepted { result ≡ validated_zone names.now zone.now }
     {
         if zone_text::is_accepted(zone, names) {
             Ok(())
@@ -100,7 +102,7 @@ impl TimeZone {
 
     /// Whether the zones are equal, where none counts as `UTC`.
     pub fn eq_none_as_utc(this: Option<&TimeZone>, other: Option<&TimeZone>) -> bool
-        ensures value { result ≡ eq_none_as_utc (option_map (λ z. z.now) this.entry) (option_map (λ z. z.now) other.entry) }
+        ensures value { result ≡ eq_none_as_utc (option_copied this.entry) (option_copied other.entry) }
     {
         name_or_utc(this) == name_or_utc(other)
     }
@@ -120,7 +122,7 @@ impl TimeZone {
 
 /// The zone of an accepted name.
 pub fn parse_time_zone(zone: &str, names: &ZoneNames) -> PolarsResult<TimeZone>
-    ensures zone { result ≡ ok_or (accepted_name names.now zone.now) Zone }
+    ensures zone { result ≡ parsed_zone names.now zone.now }
 {
     if zone_text::is_accepted(zone, names) {
         Ok(TimeZone::named(zone))
@@ -132,7 +134,7 @@ pub fn parse_time_zone(zone: &str, names: &ZoneNames) -> PolarsResult<TimeZone>
 /// The `Etc/GMT` name of a fixed offset, whose sign is the other one. Names that were handed in
 /// don't count.
 pub fn parse_fixed_offset(alloc: Global, zone: &str) -> PolarsResult<PlSmallStr>
-    ensures name { Gives result (ok_or (option_and_then (accepted_name []) (offset_name zone.now)) Zone) }
+    ensures name { Gives result (parsed_offset zone.now) }
 {
     match zone_text::offset_zone(zone.as_bytes()) {
         Some(named) if zone_text::is_gmt_name(named.as_str()) => PlSmallStr::from_str(
@@ -179,7 +181,7 @@ fn canonical(text: &str) -> &str
 }
 
 fn name_or_utc(zone: Option<&TimeZone>) -> &str
-    ensures name { result.now ≡ none_as_utc (option_map (λ z. z.now) zone.entry) }
+    ensures name { result.now ≡ none_as_utc (option_copied zone.entry) }
 {
     match zone {
         Some(zone) => zone.as_str(),

@@ -1,5 +1,5 @@
 // Which types are what. No test takes memory.
-ghost use Rattle.std.specs.Prelude.{◌≡◌};
+ghost use Rattle.std.specs.Prelude.{◌≡◌, false};
 ghost use Rattle.col_types.specs.DataType.{is_integer, is_temporal, is_nested, holds_integers, leaf_of};
 ghost use Rattle.col_types.specs.DataType.{is_wildcard, is_allowed_digits, is_bad_leaf, is_bad_target, has_scale};
 ghost use Rattle.col_types.specs.DataType.{is_column_type, is_expression_type, is_expression_target};
@@ -91,6 +91,7 @@ impl DataType {
     /// The innermost type, below every list and array.
     pub fn leaf_dtype(&self) -> &DataType
         ensures leaf { result.now ≡ leaf_of self.now }
+        ensures flat { is_nested result.now ≡ false }
     {
         match self {
             DataType::List(leaf) | DataType::Array(leaf, _) => leaf.leaf_dtype(),

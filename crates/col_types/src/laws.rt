@@ -1,0 +1,42 @@
+// Laws above the definitions. Each function does nothing: its contract is the law.
+ghost use Rattle.std.specs.Prelude.{◌≡◌, List, ℕ, [], true, Option, Some, None, Ok};
+ghost use Rattle.std.specs.Cmp.{IsEquivalence};
+ghost use Rattle.col_types.specs.declared.is_sorted.IsSorted.{IsSorted};
+ghost use Rattle.col_types.specs.declared.time_unit.TimeUnit.{TimeUnit};
+ghost use Rattle.col_types.specs.TimeUnit.{coarser_unit, to_arrow, from_arrow};
+ghost use Rattle.col_types.specs.IsSorted.{reversed};
+ghost use Rattle.col_types.specs.Zones.{opt_zone, eq_wildcard_aware, eq_none_as_utc};
+ghost use Rattle.col_types.specs.Laws.{OrdersByTick, GivesItselfAgain, WildcardJoinsWhatDiffers};
+
+use crate::TimeUnit;
+
+/// The claim that was turned twice is the first one.
+pub fn reverse_flag()
+    ensures twice { (order : IsSorted) → reversed (reversed order) ≡ order }
+{}
+
+/// A unit is less than another exactly where its tick is shorter.
+pub fn units_are_ordered()
+    ensures order { OrdersByTick ⟦<TimeUnit as PartialOrd>⟧.partial_cmp }
+{}
+
+/// Arrow has each unit under its name, and of two units it doesn't matter which comes first.
+pub fn units_translate()
+    ensures back { (unit : TimeUnit) → from_arrow (to_arrow unit) ≡ unit }
+    ensures coarser { (u v : TimeUnit) → coarser_unit u v ≡ coarser_unit v u }
+{}
+
+/// The name of a zone names that zone, and the empty text names none.
+pub fn zone_names_are_canonical()
+    ensures again { (names : List (List ℕ)) (text : Option (List ℕ)) → GivesItselfAgain names text }
+    ensures empty { (names : List (List ℕ)) → opt_zone names (Some []) ≡ Ok None }
+{}
+
+/// Equality where none counts as `UTC` is an equivalence; that where the wildcard equals each zone is
+/// reflexive and symmetric, but not transitive.
+pub fn zone_equalities()
+    ensures none_as_utc { IsEquivalence eq_none_as_utc }
+    ensures reflexive { (y : List ℕ) → eq_wildcard_aware y y ≡ true }
+    ensures symmetric { (y z : List ℕ) → eq_wildcard_aware y z ≡ eq_wildcard_aware z y }
+    ensures not_transitive { WildcardJoinsWhatDiffers }
+{}
