@@ -4,14 +4,16 @@ use Rattle.std.proofs.Common.{◌≡◌, ◌^◌, ◌-◌, true, false, refl, []
 use Rattle.std.specs.Prelude.{codes}
 use Rattle.std.specs.Fmt.{digits}
 use Rattle.col_types.specs.declared.time_unit.TimeUnit.TheVariants.{Nanoseconds, Microseconds, Milliseconds}
-use Rattle.col_types.specs.declared.data_type.DataType.{Datetime, Duration}
-use Rattle.col_types.specs.declared.cast_options.CastOptions.TheVariants.{NonStrict}
+use Rattle.col_types.specs.declared.data_type.DataType.{Binary, Date, Datetime, Duration, Time}
+use Rattle.col_types.specs.declared.cast_options.CastOptions.TheVariants.{NonStrict, Strict, Overflowing}
 use Rattle.col_types.specs.declared.is_sorted.IsSorted.TheVariants.{Not}
 use Rattle.col_model.specs.Value.{whole}
-use Rattle.col_expr.specs.Tree.{Input, Cast}
-use Rattle.col_expr.specs.declared.error.EvalError.TheVariants.{Strict}
+use Rattle.col_expr.specs.Tree.{Input, Cast, CastTo}
+use Rattle.col_expr.specs.declared.error.EvalError.TheVariants as refusals
 use Rattle.col_text.specs.Numbers.{integer_of, number_of}
-use Rattle.col_text.specs.Types.{dtype_named}
+use Rattle.col_text.specs.Types.{column_dtype, target_named}
+use Rattle.col_text.specs.Zone.{is_zone_name}
+use Rattle.col_text.specs.Symbols.{symbol_of}
 use Rattle.col_text.specs.Slots.{is_name, slots_of}
 use Rattle.col_text.specs.Expression.{expression_line}
 use Rattle.col_text.specs.Script.{script_of}
@@ -41,23 +43,69 @@ names : (is_name (replicate 64 33) ≡ true) × (is_name (replicate 65 126) ≡ 
     × (is_name [] ≡ false) × (is_name (127 ∷ []) ≡ false)
 names = (refl, refl, refl, refl)
 
--- units in brackets, and no zone
-dtypes : (dtype_named (codes "datetime[us]") ≡ Some (Datetime Microseconds None))
-    × (dtype_named (codes "duration[ms]") ≡ Some (Duration Milliseconds))
-    × (dtype_named (codes "datetime[ms,UTC]") ≡ None) × (dtype_named (codes "date") ≡ None)
-dtypes = (refl, refl, refl, refl)
+-- a zone's name has at most 64 letters, digits and signs
+zone_names : (is_zone_name (replicate 64 90) ≡ true) × (is_zone_name (replicate 65 48) ≡ false)
+    × (is_zone_name (codes "Etc/GMT+13_a-z:9") ≡ true) × (is_zone_name (codes "*") ≡ false)
+    × (is_zone_name [] ≡ false) × (is_zone_name (195 ∷ []) ≡ false)
+zone_names = (refl, refl, refl, refl, refl, refl)
+
+-- units in brackets, and a zone behind the comma, where it is accepted
+dtypes : (column_dtype [] (codes "date") ≡ Some Date) × (column_dtype [] (codes "time") ≡ Some Time)
+    × (column_dtype [] (codes "datetime[us]") ≡ Some (Datetime Microseconds None))
+    × (column_dtype [] (codes "datetime[us,]") ≡ Some (Datetime Microseconds None))
+    × (column_dtype [] (codes "duration[ms]") ≡ Some (Duration Milliseconds))
+    × (column_dtype [] (codes "duration[ms,]") ≡ None) × (column_dtype [] (codes "string") ≡ None)
+    × (column_dtype [] (codes "datetime[ms,UTC") ≡ None)
+    × (column_dtype [] (codes "datetime[ms,UTC]") ≡ Some (Datetime Milliseconds (Some (codes "UTC"))))
+dtypes = (refl, refl, refl, refl, refl, refl, refl, refl, refl)
+
+-- an offset names the zone whose sign is turned, unless the offset was handed in as a name
+offsets : (column_dtype [] (codes "datetime[us,+01:00]")
+    ≡ Some (Datetime Microseconds (Some (codes "Etc/GMT-1"))))
+    × (column_dtype (codes "+01:00" ∷ []) (codes "datetime[us,+01:00]")
+    ≡ Some (Datetime Microseconds (Some (codes "+01:00"))))
+    × (column_dtype [] (codes "datetime[us,Europe/Oslo]") ≡ None)
+offsets = (refl, refl, refl)
+
+-- a column has no wildcard as its zone, and a target may have it
+wildcards : (column_dtype [] (codes "datetime[ns,*]") ≡ None)
+    × (target_named [] (codes "datetime[ns,*]") ≡ Some (Datetime Nanoseconds (Some (codes "*"))))
+    × (target_named [] (codes "binary") ≡ Some Binary)
+wildcards = (refl, refl, refl)
 
 -- chunks leave no trace among the slots
 chunks : slots_of (codes "|" ∷ codes "1" ∷ codes "|" ∷ codes "|" ∷ codes "null" ∷ [])
     ≡ Some (Some (pos 1) ∷ None ∷ [])
 chunks = refl
 
+-- options of casts
+tokens : (symbol_of [] (codes "cast!:date") ≡ Some (CastTo Date Strict))
+    × (symbol_of [] (codes "cast~:time") ≡ Some (CastTo Time Overflowing))
+    × (symbol_of [] (codes "cast:datetime[s]") ≡ None)
+tokens = (refl, refl, refl)
+
 -- a cast takes the tree before it, and one tree is left
-expressions : (expression_line (codes "$0" ∷ codes "cast:duration[ns]" ∷ [])
+expressions : (expression_line [] (codes "$0" ∷ codes "cast:duration[ns]" ∷ [])
     ≡ Some (Cast (Input 0) (Duration Nanoseconds) NonStrict))
-    × (expression_line (codes "cast:duration[ns]" ∷ codes "$0" ∷ []) ≡ None)
-    × (expression_line (codes "$0" ∷ codes "$1" ∷ []) ≡ None) × (expression_line [] ≡ None)
+    × (expression_line [] (codes "cast:duration[ns]" ∷ codes "$0" ∷ []) ≡ None)
+    × (expression_line [] (codes "$0" ∷ codes "$1" ∷ []) ≡ None) × (expression_line [] [] ≡ None)
 expressions = (refl, refl, refl, refl)
+
+-- a zone serves the lines behind it, also twice, and none before it
+zones : (script_of (codes "zone a/b\nzone a/b\ncol a datetime[ns,a/b]\nexpr $0")
+    ≡ Ok (record {
+      inputs = record {
+        name = codes "a";
+        dtype = Datetime Nanoseconds (Some (codes "a/b"));
+        slots = [];
+        flag = Not;
+      } ∷ [];
+      expr = Input 0;
+    }))
+    × (script_of (codes "col a datetime[ns,a/b]\nzone a/b\nexpr $0") ≡ Err 1)
+    × (script_of (codes "zone a b\nexpr $0") ≡ Err 1) × (script_of (codes "zone\nexpr $0") ≡ Err 1)
+    × (script_of (codes "expr $0\nzone a") ≡ Err 2)
+zones = (refl, refl, refl, refl, refl)
 
 -- a column and an expression over it
 whole_script : script_of (codes "col a datetime[ns] -1 null\r\n\nexpr $0")
@@ -91,7 +139,7 @@ unfolding digits
 column = refl
 
 -- the lines of a refusal and of a bad script
-lines : (refusal_text (Strict 2 10) ≡ codes "refused 2 strict 10\n")
+lines : (refusal_text (refusals.Strict 2 10) ≡ codes "refused 2 strict 10\n")
     × (bad_line_text 12 ≡ codes "bad line 12\n")
 unfolding digits
 lines = (refl, refl)

@@ -1,5 +1,6 @@
 pub mod NumberLemmas
-pub mod NameLemmas
+pub mod TextLemmas
 pub mod SlotLemmas
 pub mod ExpressionLemmas
+pub mod AnswerLemmas
 mod KnownValues

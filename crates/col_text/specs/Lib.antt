@@ -1,8 +1,12 @@
 pub mod Numbers
 pub mod Parts
 pub mod Types
+pub mod Zone
 pub mod Slots
+pub mod Symbols
+pub mod Nodes
 pub mod Expression
 pub mod Script
 pub mod Answer
 pub mod Reading
+pub mod Refused

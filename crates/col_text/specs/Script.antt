@@ -1,6 +1,5 @@
 -- The script: lines of zones and columns, and then the line of the expression.
-use Rattle.std.specs.Prelude.{◌≡◌, ℕ, ◌+◌, Bool, ◌&&◌, ◌||◌, nat_eq, nat_lt, nat_le, List, [], ◌∷◌, ◌++◌, length, Option, Some, None, Result, Ok, Err, option_map, if◌then◌else◌, codes}
-use Rattle.std.specs.List.{list_all, list_any}
+use Rattle.std.specs.Prelude.{◌≡◌, ℕ, ◌+◌, List, [], ◌∷◌, ◌++◌, length, Option, Some, None, Result, Ok, Err, option_map, if◌then◌else◌, codes}
 use Rattle.std.specs.Str.{bytes_eq}
 use Rattle.col_types.specs.Zones.{with_name}
 use Rattle.col_model.specs.Column.{Column}
@@ -11,25 +10,14 @@ use Rattle.col_text.specs.declared.script.Stage.{Stage}
 use Rattle.col_text.specs.declared.script.Stage.TheVariants.{Columns, Complete}
 use Rattle.col_text.specs.declared.script.ReadError.{ReadError}
 use Rattle.col_text.specs.declared.script.ReadError.TheVariants as errors
+use Rattle.col_text.specs.Zone.{zone_line}
 use Rattle.col_text.specs.Slots.{column_line}
 use Rattle.col_text.specs.Expression.{expression_line}
 
--- a letter, a digit, or one of the signs of zones' names
-abbrev pub is_zone_byte : ℕ → Bool
-is_zone_byte byte =
-    (nat_le 48 byte && nat_le byte 57) || (nat_le 65 byte && nat_le byte 90)
-    || (nat_le 97 byte && nat_le byte 122) || list_any (nat_eq byte) (codes "/_+-:")
-
--- the name of a zone that a script can hand in has 1 to 64 such bytes
-abbrev pub is_zone_name : List ℕ → Bool
-is_zone_name text =
-    nat_lt 0 (length text) && nat_le (length text) 64 && list_all is_zone_byte text
-
--- one zone more, where one name stands behind `zone`
+-- one zone more
 abbrev pub with_zone : List (List ℕ) → List Column → List (List ℕ) → Option Stage
-with_zone zones inputs (name ∷ []) =
-    if is_zone_name name then Some (Columns (with_name zones name) inputs) else None
-with_zone zones inputs _ = None
+with_zone zones inputs tokens =
+    option_map (λ name. Columns (with_name zones name) inputs) (zone_line tokens)
 
 -- one column more
 abbrev pub with_column : List (List ℕ) → List Column → List (List ℕ) → Option Stage

@@ -43,8 +43,10 @@ fn push_value(text: &mut String, value: AnyValue<'_>) -> Result<(), AllocError>
 {
     match value {
         AnyValue::Null => text.push_str("null\n"),
+        AnyValue::Date(day) => writeln!(text, "{day}"),
         AnyValue::Datetime(tick, _, _) => writeln!(text, "{tick}"),
         AnyValue::Duration(tick, _) => writeln!(text, "{tick}"),
+        AnyValue::Time(tick) => writeln!(text, "{tick}"),
     }
 }
 

@@ -1,13 +1,11 @@
 // The line of a column.
 ghost use Rattle.std.specs.Prelude.{◌≡◌, true, Some};
-ghost use Rattle.std.specs.List.{list_all};
-ghost use Rattle.col_model.specs.Column.{is_column_type};
+ghost use Rattle.col_model.specs.Column.{is_built_type};
 ghost use Rattle.col_token.specs.Tokens.{words_in};
 ghost use Rattle.col_text.specs.Slots.{
   column_line,
   column_with,
   ends_chunk,
-  is_graphic,
   is_name,
   slot_of,
   slots_after,
@@ -15,20 +13,16 @@ ghost use Rattle.col_text.specs.Slots.{
 };
 ghost use Rattle.col_text.specs.Reading.{Reads, ReadsBy, Becomes};
 
-use crate::dtypes::dtype_named;
+use crate::dtypes::column_dtype;
 use crate::line_error::LineError;
 use crate::numbers::integer;
-use col_series::{DataType, PlSmallStr, PolarsError, Series};
+use crate::words::{are_graphic, is_word, shared_text};
+use col_series::{PolarsError, Series};
 use col_token::first_token;
+use col_types::{DataType, ZoneNames};
 use std::alloc::Global;
 
 const LONGEST_NAME: usize = 64;
-
-fn are_graphic(token: &[u8]) -> bool
-    ensures graphic { result ≡ list_all is_graphic token.now }
-{
-    token.iter().all(|byte| b'!' <= *byte && *byte <= b'~')
-}
 
 fn is_name(token: &[u8]) -> bool
     ensures name { result ≡ is_name token.now }
@@ -36,29 +30,16 @@ fn is_name(token: &[u8]) -> bool
     !token.is_empty() && token.len() <= LONGEST_NAME && are_graphic(token)
 }
 
-fn name_of(alloc: Global, token: &[u8]) -> Result<PlSmallStr, LineError>
-    requires name { is_name token.now ≡ true }
-    ensures name { Reads result (Some token.now) }
-{
-    match str::from_utf8(token) {
-        Ok(text) => match PlSmallStr::from_str(alloc, text) {
-            Ok(name) => Ok(name),
-            Err(_) => Err(LineError::NoMemory),
-        },
-        Err(_) => unreachable!(),
-    }
-}
-
 fn ends_chunk(token: &[u8]) -> bool
     ensures end { result ≡ ends_chunk token.now }
 {
-    token == b"|".as_slice()
+    is_word(token, "|")
 }
 
 fn slot(token: &[u8]) -> Option<Option<i128>>
     ensures slot { result ≡ slot_of token.now }
 {
-    if token == b"null".as_slice() {
+    if is_word(token, "null") {
         return Some(None);
     }
     Some(Some(integer(token)?))
@@ -97,11 +78,11 @@ fn column_with(
     dtype: &DataType,
 ) -> Result<Series, LineError>
     requires name { is_name name.now ≡ true }
-    requires typed { is_column_type dtype.now ≡ true }
+    requires built { is_built_type dtype.now ≡ true }
     ensures column { Reads result (column_with name.now (words_in line.now) dtype.now) }
 {
     let slots = slots(alloc, line)?;
-    let name = name_of(alloc, name)?;
+    let name = shared_text(alloc, name)?;
     match Series::from_slots(alloc, name, dtype, &slots) {
         Ok(column) => Ok(column),
         Err(PolarsError::NoMemory) => Err(LineError::NoMemory),
@@ -109,9 +90,13 @@ fn column_with(
     }
 }
 
-/// The column that stands behind `col`: a name, a type, and slots.
-pub(crate) fn column_line(alloc: Global, line: &[u8]) -> Result<Series, LineError>
-    ensures column { Reads result (column_line (words_in line.now)) }
+/// The column that stands behind `col`, with the zones handed in before: a name, a type, and slots.
+pub(crate) fn column_line(
+    alloc: Global,
+    zones: &ZoneNames,
+    line: &[u8],
+) -> Result<Series, LineError>
+    ensures column { Reads result (column_line zones.now (words_in line.now)) }
 {
     let Some((name, rest)) = first_token(line) else {
         return Err(LineError::Bad);
@@ -122,7 +107,7 @@ pub(crate) fn column_line(alloc: Global, line: &[u8]) -> Result<Series, LineErro
     if !is_name(name) {
         return Err(LineError::Bad);
     }
-    match dtype_named(dtype) {
+    match column_dtype(zones, dtype) {
         Some(dtype) => column_with(alloc, name, slots, &dtype),
         None => Err(LineError::Bad),
     }

@@ -1,81 +1,70 @@
 // The line of the expression.
-ghost use Rattle.std.specs.Prelude.{◌≡◌, true, IfSome};
-ghost use Rattle.col_types.specs.declared.cast_options.CastOptions.TheVariants.{NonStrict};
-ghost use Rattle.col_model.specs.Column.{is_column_type};
-ghost use Rattle.col_expr.specs.Tree.{Cast, is_within_limits, TakeInput, CastTo};
+ghost use Rattle.std.specs.Prelude.{◌≡◌, true};
+ghost use Rattle.col_expr.specs.Tree.{is_within_limits};
 ghost use Rattle.col_expr.specs.Postfix.{stack_with, only_tree};
 ghost use Rattle.col_token.specs.Tokens.{words_in};
-ghost use Rattle.col_text.specs.Expression.{
-  cast_target,
-  expression_line,
-  input_number,
-  stack_after_token,
-  within_limits,
+ghost use Rattle.col_text.specs.Expression.{expression_line, stack_after_token, within_limits};
+ghost use Rattle.col_text.specs.Nodes.{
+  is_built_node,
+  is_built_operation,
+  node_symbol,
+  operation_symbol,
+  tree_over,
 };
 ghost use Rattle.col_text.specs.Reading.{Reads, Becomes};
 
-use crate::dtypes::dtype_named;
 use crate::line_error::LineError;
-use crate::numbers::number;
+use crate::node::{Node, Operation, node_of};
 use crate::stack::Stack;
-use col_expr::{Expr, ExprCause};
-use col_series::{CastOptions, DataType};
+use col_expr::Expr;
 use col_token::first_token;
+use col_types::ZoneNames;
 use std::alloc::Global;
 
-fn input_number(token: &[u8]) -> Option<u32>
-    ensures number { result ≡ input_number token.now }
+/// The operation over its operand.
+fn over(alloc: Global, operation: Operation, operand: Expr) -> Result<Expr, LineError>
+    requires built { is_built_operation operation ≡ true }
+    ensures tree { Reads result (within_limits (tree_over operation operand)) }
 {
-    number(token.strip_prefix(b"$")?)
-}
-
-fn cast_target(token: &[u8]) -> Option<DataType>
-    ensures dtype { result ≡ cast_target token.now }
-    ensures typed { IfSome result (λ dtype. is_column_type dtype ≡ true) }
-{
-    dtype_named(token.strip_prefix(b"cast:")?)
-}
-
-fn push_input(stack: &mut Stack, index: u32) -> Result<(), LineError>
-    ensures stack { Becomes result stack.new
-        (stack_with is_within_limits (TakeInput index) stack.old) }
-{
-    Ok(stack.push(Expr::input(index))?)
-}
-
-fn cast_of(alloc: Global, operand: Expr, dtype: DataType) -> Result<Expr, LineError>
-    requires typed { is_column_type dtype ≡ true }
-    ensures tree { Reads result (within_limits (Cast operand dtype NonStrict)) }
-{
-    match Expr::cast(alloc, operand, dtype, CastOptions::NonStrict) {
-        Ok(tree) => Ok(tree),
-        Err(refused) => match refused.cause {
-            ExprCause::NoMemory => Err(LineError::NoMemory),
-            _ => Err(LineError::Bad),
-        },
+    match operation {
+        Operation::Cast(dtype, options) => Ok(Expr::cast(alloc, operand, dtype, options)?),
     }
 }
 
-fn push_cast(alloc: Global, stack: &mut Stack, dtype: DataType) -> Result<(), LineError>
-    requires typed { is_column_type dtype ≡ true }
+fn push_unary(alloc: Global, stack: &mut Stack, operation: Operation) -> Result<(), LineError>
+    requires built { is_built_operation operation ≡ true }
     ensures stack { Becomes result stack.new
-        (stack_with is_within_limits (CastTo dtype NonStrict) stack.old) }
+        (stack_with is_within_limits (operation_symbol operation) stack.old) }
 {
     match stack.pop() {
-        Some(operand) => Ok(stack.push(cast_of(alloc, operand, dtype)?)?),
+        Some(operand) => Ok(stack.push(over(alloc, operation, operand)?)?),
         None => Err(LineError::Bad),
     }
 }
 
-/// Adds the node that a token spells.
-fn push_token(alloc: Global, stack: &mut Stack, token: &[u8]) -> Result<(), LineError>
-    ensures stack { Becomes result stack.new (stack_after_token stack.old token.now) }
+fn push_node(alloc: Global, stack: &mut Stack, node: Node) -> Result<(), LineError>
+    requires built { is_built_node node ≡ true }
+    ensures stack { Becomes result stack.new
+        (stack_with is_within_limits (node_symbol node) stack.old) }
 {
-    if let Some(index) = input_number(token) {
-        return push_input(stack, index);
+    match node {
+        Node::Input(index) => Ok(stack.push(Expr::input(index))?),
+        Node::Unary(operation) => push_unary(alloc, stack, operation),
     }
-    match cast_target(token) {
-        Some(dtype) => push_cast(alloc, stack, dtype),
+}
+
+/// Adds the node that a token spells.
+fn push_token(
+    alloc: Global,
+    zones: &ZoneNames,
+    stack: &mut Stack,
+    token: &[u8],
+) -> Result<(), LineError>
+    ensures stack { Becomes result stack.new
+        (stack_after_token zones.now stack.old token.now) }
+{
+    match node_of(zones, token) {
+        Some(node) => push_node(alloc, stack, node),
         None => Err(LineError::Bad),
     }
 }
@@ -92,14 +81,20 @@ fn only_tree(stack: Stack) -> Option<Expr>
     }
 }
 
-/// The expression that stands behind `expr`.
-pub(crate) fn expression_line(alloc: Global, line: &[u8]) -> Result<Expr, LineError>
-    ensures tree { Reads result (expression_line (words_in line.now)) }
+/// The expression that stands behind `expr`, with the zones handed in before.
+pub(crate) fn expression_line(
+    alloc: Global,
+    zones: &ZoneNames,
+    line: &[u8],
+) -> Result<Expr, LineError>
+    ensures tree { Reads result (expression_line zones.now (words_in line.now)) }
 {
     let mut stack = Stack::new(alloc);
     let mut rest = line;
     'tokens: while let Some((token, more)) = first_token(rest) {
-        push_token(alloc, &mut stack, token)?;
+        if let Err(refused) = push_token(alloc, zones, &mut stack, token) {
+            return Err(refused);
+        }
         rest = more;
     }
     match only_tree(stack) {

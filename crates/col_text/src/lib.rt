@@ -6,10 +6,12 @@ mod column;
 mod dtypes;
 mod expression;
 mod line_error;
+mod node;
 mod numbers;
 mod script;
 mod stack;
 mod words;
+mod zone;
 
 pub use answer::{answer_text, bad_line_text, fault_text};
 pub use col_expr::{EvalError, Expr, Inputs};

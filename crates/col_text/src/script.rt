@@ -10,14 +10,17 @@ ghost use Rattle.col_text.specs.Script.{
   stage_after,
   with_column,
   with_expression,
+  with_zone,
 };
 
 use crate::column::column_line;
 use crate::expression::expression_line;
 use crate::line_error::LineError;
 use crate::words::is_word;
+use crate::zone::zone_line;
 use col_expr::{Expr, Inputs};
 use col_token::{content, first_line, first_token};
+use col_types::ZoneNames;
 use std::alloc::Global;
 
 /// The columns of a script, and the expression over them.
@@ -40,28 +43,57 @@ pub enum ReadError {
 /// How far a script is read.
 #[derive(Drop)]
 pub(crate) enum Stage {
-    Columns(Inputs),
+    /// The zones and the columns so far.
+    Columns(ZoneNames, Inputs),
+    /// The expression is read too.
     Complete(Script),
 }
 
-fn with_column(alloc: Global, inputs: Inputs, line: &[u8]) -> Result<Stage, LineError>
-    requires room { length inputs < 2 ^ 32 - 1 }
-    ensures stage { ReadsLine result (with_column inputs (words_in line.now)) }
+fn with_zone(
+    alloc: Global,
+    zones: ZoneNames,
+    inputs: Inputs,
+    line: &[u8],
+) -> Result<Stage, LineError>
+    ensures stage { ReadsLine result (with_zone zones inputs (words_in line.now)) }
     ensures count { IfOk result (λ stage. column_count stage ≤ length inputs + 1) }
 {
-    let column = column_line(alloc, line)?;
-    let mut inputs = inputs;
-    match inputs.push(column) {
-        Ok(()) => Ok(Stage::Columns(inputs)),
+    let name = zone_line(alloc, line)?;
+    let mut zones = zones;
+    match zones.insert(name) {
+        Ok(()) => Ok(Stage::Columns(zones, inputs)),
         Err(_) => Err(LineError::NoMemory),
     }
 }
 
-fn with_expression(alloc: Global, inputs: Inputs, line: &[u8]) -> Result<Stage, LineError>
-    ensures stage { ReadsLine result (with_expression inputs (words_in line.now)) }
+fn with_column(
+    alloc: Global,
+    zones: ZoneNames,
+    inputs: Inputs,
+    line: &[u8],
+) -> Result<Stage, LineError>
+    requires room { length inputs < 2 ^ 32 - 1 }
+    ensures stage { ReadsLine result (with_column zones inputs (words_in line.now)) }
     ensures count { IfOk result (λ stage. column_count stage ≤ length inputs + 1) }
 {
-    let expr = expression_line(alloc, line)?;
+    let column = column_line(alloc, &zones, line)?;
+    let mut inputs = inputs;
+    match inputs.push(column) {
+        Ok(()) => Ok(Stage::Columns(zones, inputs)),
+        Err(_) => Err(LineError::NoMemory),
+    }
+}
+
+fn with_expression(
+    alloc: Global,
+    zones: ZoneNames,
+    inputs: Inputs,
+    line: &[u8],
+) -> Result<Stage, LineError>
+    ensures stage { ReadsLine result (with_expression zones inputs (words_in line.now)) }
+    ensures count { IfOk result (λ stage. column_count stage ≤ length inputs + 1) }
+{
+    let expr = expression_line(alloc, &zones, line)?;
     Ok(Stage::Complete(Script { inputs, expr }))
 }
 
@@ -75,11 +107,13 @@ fn next_stage(alloc: Global, stage: Stage, line: &[u8]) -> Result<Stage, LineErr
         return Ok(stage);
     };
     match stage {
-        Stage::Columns(inputs) => {
-            if is_word(word, "col") {
-                with_column(alloc, inputs, rest)
+        Stage::Columns(zones, inputs) => {
+            if is_word(word, "zone") {
+                with_zone(alloc, zones, inputs, rest)
+            } else if is_word(word, "col") {
+                with_column(alloc, zones, inputs, rest)
             } else if is_word(word, "expr") {
-                with_expression(alloc, inputs, rest)
+                with_expression(alloc, zones, inputs, rest)
             } else {
                 Err(LineError::Bad)
             }
@@ -93,7 +127,7 @@ pub fn read_script(alloc: Global, text: &[u8]) -> Result<Script, ReadError>
     requires short { length text.now ≤ longest_text }
     ensures script { Reads result (script_of text.now) }
 {
-    let mut stage = Stage::Columns(Inputs::new(alloc));
+    let mut stage = Stage::Columns(ZoneNames::new(alloc), Inputs::new(alloc));
     let mut number: u32 = 1;
     let mut rest = text;
     'lines: while !rest.is_empty() {
@@ -108,6 +142,6 @@ pub fn read_script(alloc: Global, text: &[u8]) -> Result<Script, ReadError>
     }
     match stage {
         Stage::Complete(script) => Ok(script),
-        Stage::Columns(_) => Err(ReadError::BadLine { line: number }),
+        Stage::Columns(_, _) => Err(ReadError::BadLine { line: number }),
     }
 }

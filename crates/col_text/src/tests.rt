@@ -37,7 +37,23 @@ fn scripts_are_read(rt: HostRuntime) -> Result<(), Fail> {
             "col a datetime[ms] 9223372036854775808\nexpr $0",
             "bad line 1\n",
         ),
-        ("col a datetime[ms,UTC] 1\nexpr $0", "bad line 1\n"),
+        ("col a date -2147483648 2147483647\nexpr $0", "a date 2\n-2147483648\n2147483647\n"),
+        ("col a date 2147483648\nexpr $0", "bad line 1\n"),
+        ("col a time 86399999999999\nexpr $0", "a time 1\n86399999999999\n"),
+        ("col a time 86400000000000\nexpr $0", "bad line 1\n"),
+        ("col a datetime[ms,UTC] 1\nexpr $0", "a datetime[ms,UTC] 1\n1\n"),
+        ("col a datetime[us,+01:00]\nexpr $0", "a datetime[us,Etc/GMT-1] 0\n"),
+        ("col a datetime[us,]\nexpr $0", "a datetime[us] 0\n"),
+        ("col a datetime[us,*]\nexpr $0", "bad line 1\n"),
+        ("col a datetime[us,Europe/Oslo]\nexpr $0", "bad line 1\n"),
+        (
+            "zone Europe/Oslo\ncol a datetime[us,Europe/Oslo]\nexpr $0",
+            "a datetime[us,Europe/Oslo] 0\n",
+        ),
+        ("zone a b\nexpr $0", "bad line 1\n"),
+        ("zone a*\nexpr $0", "bad line 1\n"),
+        ("expr $0\nzone a", "bad line 2\n"),
+        ("col a string\nexpr $0", "bad line 1\n"),
         ("col a datetime[ms] -\nexpr $0", "bad line 1\n"),
         ("col a duration[ms]\nexpr $0", "a duration[ms] 0\n"),
         ("col a\nexpr $0", "bad line 1\n"),
@@ -54,6 +70,41 @@ fn scripts_are_read(rt: HostRuntime) -> Result<(), Fail> {
         ("expr", "bad line 1\n"),
     ] {
         let text = first_column(rt.alloc(), given)?;
+        assert_eq!(rt; text.as_slice(), wanted.as_bytes(), "at {given}");
+    }
+    Ok(())
+}
+
+#[test]
+fn tokens_are_read(rt: HostRuntime) -> Result<(), Fail> {
+    for (given, wanted) in [
+        ("expr $0 cast:string cast!:binary cast~:date", ""),
+        ("expr $0 cast:time cast!:datetime[us,*]", ""),
+        ("expr $0 cast:datetime[us,utc]", ""),
+        ("expr $0 cast:datetime[us,nowhere]", "bad line 1\n"),
+        ("expr $0 cast?:date", "bad line 1\n"),
+    ] {
+        let text = first_column(rt.alloc(), given)?;
+        assert_eq!(rt; text.as_slice(), wanted.as_bytes(), "at {given}");
+    }
+    Ok(())
+}
+
+// A zone whose name has so many bytes.
+fn zone(alloc: Global, bytes: usize) -> Result<String, AllocError> {
+    let mut text = String::from_str(alloc, "zone ")?;
+    for _ in 0..bytes {
+        text.push_str("z")?;
+    }
+    text.push_str("\nexpr $0")?;
+    Ok(text)
+}
+
+#[test]
+fn zone_names_end_at_their_limit(rt: HostRuntime) -> Result<(), Fail> {
+    for (given, wanted) in [(0, "bad line 1\n"), (1, ""), (64, ""), (65, "bad line 1\n")] {
+        let script = zone(rt.alloc(), given)?;
+        let text = first_column(rt.alloc(), script.as_str())?;
         assert_eq!(rt; text.as_slice(), wanted.as_bytes(), "at {given}");
     }
     Ok(())

@@ -1,0 +1,87 @@
+-- Names are text, since their bytes are ASCII, and a zone's name can be handed in.
+use Rattle.std.proofs.Common.{◌≡◌, ◌≢◌, ◌<◌, ◌≤◌, ◌⊎◌, inl, inr, ℕ, Bool, true, false, List, [], ◌∷◌, refl, sym, ap, ◌∙◌, length, nat_eq, arith, zero, suc, lit<}
+use Rattle.std.specs.Prelude.{◌&&◌, ◌||◌, nat_le, nat_lt, codes}
+use Rattle.std.specs.List.{list_all, list_any}
+use Rattle.std.specs.Str.{IsAscii, IsUtf8}
+use Rattle.std.proofs.lemmas.Str.{IsUtf8-from_ascii}
+use Rattle.std.proofs.lemmas.Bool.{false≢true, ltb-true, leb-true, eqb-true}
+use Rattle.col_text.specs.Parts.{is_graphic}
+use Rattle.col_text.specs.Slots.{is_name}
+use Rattle.col_text.specs.Zone.{is_zone_byte, is_zone_name}
+
+both : (a b : Bool) → (a && b) ≡ true → (a ≡ true) × (b ≡ true)
+both true b h = (refl, h)
+both false b h = cc
+
+either : (a b : Bool) → (a || b) ≡ true → (a ≡ true) ⊎ (b ≡ true)
+either true b h = inl refl
+either false b h = inr h
+
+-- what each byte has to be for the text to be ASCII
+abbrev IsAsciiTest : (ℕ → Bool) → Type 0
+IsAsciiTest test = (byte : ℕ) → test byte ≡ true → byte < 128
+
+IsAscii-all : (test : ℕ → Bool) → IsAsciiTest test → (bytes : List ℕ) → list_all test bytes ≡ true
+    → IsAscii bytes
+IsAscii-all test is_ascii [] h i = lit< tt
+IsAscii-all test is_ascii (b ∷ bytes) h zero =
+    is_ascii b (both (test b) (list_all test bytes) h).0
+IsAscii-all test is_ascii (b ∷ bytes) h (suc i) =
+    IsAscii-all test is_ascii bytes (both (test b) (list_all test bytes) h).1 i
+
+up_to : (low high byte : ℕ) → high < 128 → (nat_le low byte && nat_le byte high) ≡ true → byte < 128
+up_to low high byte small h =
+    let most = (both (nat_le low byte) (nat_le byte high) h).1 in
+    let below : byte ≤ high = leb-true byte high most in
+    omega arith
+
+is_graphic-ascii : IsAsciiTest is_graphic
+is_graphic-ascii byte h = up_to 33 126 byte (lit< tt) h
+
+is_sign-ascii : IsAsciiTest (λ byte. list_any (nat_eq byte) (codes "/_+-:"))
+is_sign-ascii byte h = grind (arith, eqb-true, either)
+
+is_zone_byte-ascii : IsAsciiTest is_zone_byte
+is_zone_byte-ascii byte h =
+    let digit = nat_le 48 byte && nat_le byte 57 in
+    let capital = nat_le 65 byte && nat_le byte 90 in
+    let small = nat_le 97 byte && nat_le byte 122 in
+    let sign = list_any (nat_eq byte) (codes "/_+-:") in
+    elim (either (digit || capital || small) sign h) [
+    | inr at ↦ is_sign-ascii byte at
+    | inl letter ↦ elim (either (digit || capital) small letter) [
+    | inr at ↦ up_to 97 122 byte (lit< tt) at
+    | inl other ↦ elim (either digit capital other) [
+    | inr at ↦ up_to 65 90 byte (lit< tt) at
+    | inl at ↦ up_to 48 57 byte (lit< tt) at ] ] ]
+
+-- visible bytes are text
+pub IsUtf8-graphic : (bytes : List ℕ) → list_all is_graphic bytes ≡ true → IsUtf8 bytes
+IsUtf8-graphic bytes h =
+    IsUtf8-from_ascii bytes (IsAscii-all is_graphic is_graphic-ascii bytes h)
+
+-- a name is text
+pub IsUtf8-name : (bytes : List ℕ) → is_name bytes ≡ true → IsUtf8 bytes
+IsUtf8-name bytes h = IsUtf8-graphic bytes (both _ (list_all is_graphic bytes) h).1
+
+-- a zone's name is text
+pub IsUtf8-zone_name : (bytes : List ℕ) → is_zone_name bytes ≡ true → IsUtf8 bytes
+IsUtf8-zone_name bytes h =
+    IsUtf8-from_ascii bytes
+    (IsAscii-all is_zone_byte is_zone_byte-ascii bytes (both _ (list_all is_zone_byte bytes) h).1)
+
+-- a zone's name isn't empty
+pub is_zone_name-filled : (name : List ℕ) → is_zone_name name ≡ true → 0 < length name
+is_zone_name-filled name h =
+    ltb-true 0 (length name)
+    (both _ (nat_le (length name) 64) (both _ (list_all is_zone_byte name) h).0).0
+
+-- a zone's name has room
+pub is_zone_name-short : (name : List ℕ) → is_zone_name name ≡ true → length name ≤ 64
+is_zone_name-short name h =
+    leb-true (length name) 64
+    (both (nat_lt 0 (length name)) _ (both _ (list_all is_zone_byte name) h).0).1
+
+-- a zone's name isn't the wildcard
+pub is_zone_name-no_wildcard : (name : List ℕ) → is_zone_name name ≡ true → name ≢ codes "*"
+is_zone_name-no_wildcard name h e = false≢true (sym (ap is_zone_name e) ∙ h)
