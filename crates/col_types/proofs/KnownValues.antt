@@ -44,10 +44,12 @@ before_by_thirteen_is_one = refl
 utc_stays_utc : opt_zone (codes "utc" ∷ []) (Some (codes "utc")) ≡ Ok (Some (codes "UTC"))
 utc_stays_utc = refl
 
-handed_in_offset_is_a_zone : opt_zone (codes "+01:00" ∷ []) (Some (codes "+01:00")) ≡ Ok (Some (codes "+01:00"))
+handed_in_offset_is_a_zone :
+    opt_zone (codes "+01:00" ∷ []) (Some (codes "+01:00")) ≡ Ok (Some (codes "+01:00"))
 handed_in_offset_is_a_zone = refl
 
-names_stand_in_order : with_name (with_name (codes "b" ∷ []) (codes "a")) (codes "b") ≡ codes "a" ∷ codes "b" ∷ []
+names_stand_in_order :
+    with_name (with_name (codes "b" ∷ []) (codes "a")) (codes "b") ≡ codes "a" ∷ codes "b" ∷ []
 names_stand_in_order = refl
 
 mixed_signs_widen : supertype_of Int8 UInt8 ≡ Some Int16
@@ -59,5 +61,6 @@ sixty_four_bits_are_the_widest = refl
 unsigned_stay_unsigned : supertype_of UInt16 UInt64 ≡ Some UInt64
 unsigned_stay_unsigned = refl
 
-larger_scale_is_taken : supertype_of (Decimal (Some 5) (Some 2)) (Decimal None (Some 3)) ≡ Some (Decimal None (Some 3))
+larger_scale_is_taken :
+    supertype_of (Decimal (Some 5) (Some 2)) (Decimal None (Some 3)) ≡ Some (Decimal None (Some 3))
 larger_scale_is_taken = refl

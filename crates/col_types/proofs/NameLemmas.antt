@@ -1,8 +1,8 @@
 -- A set of shared texts, seen as the names of zones.
 use Rattle.std.specs.Prelude.{◌≡◌, ◌≤◌, ◌-◌, ◌||◌, drop, replicate, ℕ, Bool, true, false, List, [], ◌∷◌, length, map, refl}
-use Rattle.std.proofs.Common.{ap, ap₂, ◌∙◌, sym, subst, ◌⊎◌, inl, inr, ⊎_elim, Ordering, Less, Equal, Greater, nat_cmp}
+use Rattle.std.proofs.Common.{ap, ap₂, ◌∙◌, sym, subst, ⊎_elim, Ordering, Less, Equal, Greater, nat_cmp}
 use Rattle.std.proofs.lemmas.List.{drop-replicate}
-use Rattle.std.proofs.lemmas.Bool.{or_cases, or_left, or_right}
+use Rattle.std.proofs.lemmas.Bool.{or_cases}
 use Rattle.std.proofs.lemmas.Map.Text.{is_eq-slice_cmp}
 use Rattle.std.proofs.lemmas.Slice.Eq.{bytes_eq-Decides}
 use Rattle.std.specs.declared.alloc.Global.{Global}
@@ -26,15 +26,18 @@ text_cmp x y = slice_cmp nat_cmp (rc_str_bytes x) (rc_str_bytes y)
 
 -- A look-up in the set is one among the names.
 pub look_up-has_name : (keys : List (RcStr Global)) (name : List ℕ)
-    → list_any (is_at (λ key. slice_cmp nat_cmp name (rc_str_bytes key))) keys ≡ has_name (names_of keys) name
+    → list_any (is_at (λ key. slice_cmp nat_cmp name (rc_str_bytes key))) keys
+    ≡ has_name (names_of keys) name
 look_up-has_name [] name = refl
 look_up-has_name (key ∷ keys) name =
     ap₂ (λ a b. a || b) (is_eq-slice_cmp name (rc_str_bytes key)) (look_up-has_name keys name)
 
-more_names : (o : Ordering) (key x : RcStr Global) (xs ys : List (RcStr Global)) (zs : List (List ℕ))
+more_names : (o : Ordering) (key x : RcStr Global) (xs ys : List (RcStr Global))
+    (zs : List (List ℕ))
     → names_of ys ≡ zs
     → names_of (match_ordering o (key ∷ x ∷ xs) (x ∷ xs) (x ∷ ys))
-    ≡ match_ordering o (rc_str_bytes key ∷ names_of (x ∷ xs)) (names_of (x ∷ xs)) (rc_str_bytes x ∷ zs)
+    ≡ match_ordering o (rc_str_bytes key ∷ names_of (x ∷ xs)) (names_of (x ∷ xs))
+    (rc_str_bytes x ∷ zs)
 more_names Less key x xs ys zs e = refl
 more_names Equal key x xs ys zs e = refl
 more_names Greater key x xs ys zs e = ap (λ l. rc_str_bytes x ∷ l) e
@@ -44,7 +47,8 @@ pub insert_key-with_name : (keys : List (RcStr Global)) (key : RcStr Global)
     → names_of (insert_key text_cmp keys key) ≡ with_name (names_of keys) (rc_str_bytes key)
 insert_key-with_name [] key = refl
 insert_key-with_name (x ∷ xs) key =
-    more_names (text_cmp key x) key x xs (insert_key text_cmp xs key) (with_name (names_of xs) (rc_str_bytes key))
+    more_names (text_cmp key x) key x xs (insert_key text_cmp xs key)
+    (with_name (names_of xs) (rc_str_bytes key))
     (insert_key-with_name xs key)
 
 twice : (a b : Bool) → (a || b) ≡ (a || (a || b))

@@ -84,7 +84,8 @@ same_type-itself String = refl
 same_type-itself Binary = refl
 same_type-itself Date = refl
 same_type-itself Time = refl
-same_type-itself (Datetime u z) = and_from (same_unit u u) (same_zone z z) (unit_itself u) (zone_itself z)
+same_type-itself (Datetime u z) =
+    and_from (same_unit u u) (same_zone z z) (unit_itself u) (zone_itself z)
 same_type-itself (Duration u) = unit_itself u
 same_type-itself (Decimal p s) =
     and_from (same_number p p) (same_number s s) (number_itself p) (number_itself s)

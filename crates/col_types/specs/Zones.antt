@@ -79,11 +79,15 @@ gmt_name behind hour =
 abbrev pub two_digits : ℕ → ℕ → ℕ
 two_digits tens ones = (tens - digit 0) * 10 + (ones - digit 0)
 
+-- Whether no minutes follow an hour.
+abbrev pub is_full_hour : List ℕ → Bool
+is_full_hour minutes = bytes_eq minutes (codes "00") || bytes_eq minutes (codes ":00")
+
 -- Whether two digits and what follows them are an offset: `00` to `14`, and no minutes.
 abbrev pub is_offset : ℕ → ℕ → List ℕ → Bool
 is_offset tens ones minutes =
     is_ascii_digit tens && is_ascii_digit ones && nat_le (two_digits tens ones) 14
-    && (bytes_eq minutes (codes "00") || bytes_eq minutes (codes ":00"))
+    && is_full_hour minutes
 
 -- The name for an offset without its sign.
 abbrev pub unsigned_offset_name : Bool → List ℕ → Option (List ℕ)

@@ -6,7 +6,8 @@ ghost use Rattle.col_types.specs.declared.time_unit.TimeUnit.{TimeUnit};
 ghost use Rattle.col_types.specs.TimeUnit.{coarser_unit, to_arrow, from_arrow};
 ghost use Rattle.col_types.specs.IsSorted.{reversed};
 ghost use Rattle.col_types.specs.Zones.{opt_zone, eq_wildcard_aware, eq_none_as_utc};
-ghost use Rattle.col_types.specs.Laws.{OrdersByTick, HasOneMore, GivesItselfAgain, WildcardJoinsWhatDiffers};
+ghost use Rattle.col_types.specs.Laws.{OrdersByTick, HasOneMore, GivesItselfAgain};
+ghost use Rattle.col_types.specs.Laws.{WildcardJoinsWhatDiffers};
 
 use crate::TimeUnit;
 
@@ -37,8 +38,8 @@ pub fn zone_names_are_canonical()
     ensures empty { (names : List (List ℕ)) → opt_zone names (Some []) ≡ Ok None }
 {}
 
-/// Equality where none counts as `UTC` is an equivalence; that where the wildcard equals each zone is
-/// reflexive and symmetric, but not transitive.
+/// Equality where none counts as `UTC` is an equivalence; that where the wildcard equals each zone
+/// is reflexive and symmetric, but not transitive.
 pub fn zone_equalities()
     ensures none_as_utc { IsEquivalence eq_none_as_utc }
     ensures reflexive { (y : List ℕ) → eq_wildcard_aware y y ≡ true }

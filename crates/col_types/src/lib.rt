@@ -15,7 +15,7 @@ mod supertype;
 mod tests;
 mod time_unit;
 mod time_zone;
-mod type_tests;
+mod type_classes;
 mod zone_names;
 mod zone_text;
 

@@ -1,7 +1,8 @@
 // Copies of types, also under nesting, which takes memory.
 ghost use Rattle.std.specs.Prelude.{◌≡◌, false, Ok};
 ghost use Rattle.col_types.specs.PolarsError.{GivesBy};
-ghost use Rattle.col_types.specs.DataType.{is_nested, shape_of, with_leaf, physical_leaf, physical_of};
+ghost use Rattle.col_types.specs.DataType.{is_nested, shape_of};
+ghost use Rattle.col_types.specs.DataType.{with_leaf, physical_leaf, physical_of};
 
 use crate::{DataType, PolarsResult};
 use std::alloc::Global;

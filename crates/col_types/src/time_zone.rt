@@ -1,7 +1,7 @@
 // A zone's name, kept in place: the bytes of the name, and zeros after it.
 ghost use Rattle.std.specs.Prelude.{◌≡◌, ◌≤◌, ◌-◌, ◌++◌, nat_eq, length, drop, replicate, codes};
 ghost use Rattle.std.specs.Prelude.{Some, option_map, if◌then◌else◌};
-ghost use Rattle.std.specs.Option.{ok_or, option_copied};
+ghost use Rattle.std.specs.Option.{ok_or, option_copied as copied};
 ghost use Rattle.std.specs.Cmp.{partial_equiv_from_equiv};
 ghost use Rattle.std.specs.Cmp.Lexicographic.{pointwise, nat_list_eq_equiv};
 ghost use Rattle.std.specs.Cmp.Rules.{hashing};
@@ -61,10 +61,11 @@ impl TimeZone {
     }
 
     /// The zone that a text names. None and the empty text give none; `*` gives the wildcard;
-    /// `+00:00`, `00:00` and `utc` give `UTC`; an accepted name gives the zone of that name; a fixed
-    /// offset gives its `Etc/GMT` zone, where that name is accepted. Every other text is refused.
+    /// `+00:00`, `00:00` and `utc` give `UTC`; an accepted name gives the zone of that name; a
+    /// fixed offset gives its `Etc/GMT` zone, where that name is accepted. Every other text is
+    /// refused.
     pub fn opt_try_new(zone: Option<&str>, names: &ZoneNames) -> PolarsResult<Option<TimeZone>>
-        ensures zone { result ≡ opt_zone names.now (option_copied zone.entry) }
+        ensures zone { result ≡ opt_zone names.now (copied zone.entry) }
     {
         match zone {
             Some(text) if !text.is_empty() => some_zone(text, names),
@@ -74,7 +75,7 @@ impl TimeZone {
 
     /// `UTC` for its other spellings, none for the empty text, and every other text as it is.
     pub fn _canonical_timezone_impl(zone: Option<&str>) -> Option<&str>
-        ensures text { option_copied result ≡ canonical_text (option_copied zone.entry) }
+        ensures text { copied result ≡ canonical_text (copied zone.entry) }
     {
         match zone {
             Some(text) if !text.is_empty() => Some(canonical(text)),
@@ -102,7 +103,7 @@ impl TimeZone {
 
     /// Whether the zones are equal, where none counts as `UTC`.
     pub fn eq_none_as_utc(this: Option<&TimeZone>, other: Option<&TimeZone>) -> bool
-        ensures value { result ≡ eq_none_as_utc (option_copied this.entry) (option_copied other.entry) }
+        ensures value { result ≡ eq_none_as_utc (copied this.entry) (copied other.entry) }
     {
         name_or_utc(this) == name_or_utc(other)
     }
@@ -181,7 +182,7 @@ fn canonical(text: &str) -> &str
 }
 
 fn name_or_utc(zone: Option<&TimeZone>) -> &str
-    ensures name { result.now ≡ none_as_utc (option_copied zone.entry) }
+    ensures name { result.now ≡ none_as_utc (copied zone.entry) }
 {
     match zone {
         Some(zone) => zone.as_str(),

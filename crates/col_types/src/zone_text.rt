@@ -1,10 +1,10 @@
 // What a text says of a zone: other spellings, accepted names, fixed offsets.
-ghost use Rattle.std.specs.Prelude.{◌≡◌, ◌≤◌, ◌||◌, drop, true, false, IsTrue, length, codes};
+ghost use Rattle.std.specs.Prelude.{◌≡◌, ◌≤◌, drop, true, false, IsTrue, length};
 ghost use Rattle.std.specs.Char.{is_ascii_digit};
-ghost use Rattle.std.specs.Str.{bytes_eq};
 ghost use Rattle.col_types.specs.Zones.{is_utc_spelling, is_gmt_name, is_accepted, accepted_name};
 ghost use Rattle.col_types.specs.Zones.{is_gmt_ending, is_short_ending, is_long_ending};
-ghost use Rattle.col_types.specs.Zones.{offset_name, unsigned_offset_name, is_offset, two_digits, gmt_name};
+ghost use Rattle.col_types.specs.Zones.{offset_name, unsigned_offset_name, is_offset};
+ghost use Rattle.col_types.specs.Zones.{is_full_hour, two_digits, gmt_name};
 
 use crate::{TimeZone, ZoneNames};
 
@@ -114,7 +114,7 @@ fn is_offset(tens: u8, ones: u8, minutes: &[u8]) -> bool
 }
 
 fn is_full_hour(minutes: &[u8]) -> bool
-    ensures value { result ≡ (bytes_eq minutes.now (codes "00") || bytes_eq minutes.now (codes ":00")) }
+    ensures value { result ≡ is_full_hour minutes.now }
 {
     matches!(minutes, b"00" | b":00")
 }

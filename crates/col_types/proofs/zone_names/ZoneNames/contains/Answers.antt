@@ -1,4 +1,4 @@
-use Rattle.std.proofs.Common.{◌≡◌, ap, ◌∙◌, sym}
+use Rattle.std.proofs.Common.{ap, ◌∙◌, sym}
 use Rattle.col_types.specs.Zones.{has_name}
 use Rattle.col_types.proofs.NameLemmas.{look_up-has_name}
 use Rattle.col_types.proofs.zone_names.ZoneNames.contains.Goals as goal

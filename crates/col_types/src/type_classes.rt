@@ -1,7 +1,8 @@
-// Which types are what. No test takes memory.
+// Which types are what. No call takes memory.
 ghost use Rattle.std.specs.Prelude.{◌≡◌, false};
-ghost use Rattle.col_types.specs.DataType.{is_integer, is_temporal, is_nested, holds_integers, leaf_of};
-ghost use Rattle.col_types.specs.DataType.{is_wildcard, is_allowed_digits, is_bad_leaf, is_bad_target, has_scale};
+ghost use Rattle.col_types.specs.DataType.{is_integer, is_temporal, is_nested};
+ghost use Rattle.col_types.specs.DataType.{holds_integers, leaf_of, has_scale};
+ghost use Rattle.col_types.specs.DataType.{is_wildcard, is_allowed_digits, is_bad_leaf, is_bad_target};
 ghost use Rattle.col_types.specs.DataType.{is_column_type, is_expression_type, is_expression_target};
 
 use crate::{DataType, TimeZone};
@@ -55,8 +56,8 @@ impl DataType {
         }
     }
 
-    /// Whether no cast can have the type as its target: its leaf has the wildcard as its zone, or more
-    /// than 38 digits before or behind the point, or the type is nested more than once.
+    /// Whether no cast can have the type as its target: its leaf has the wildcard as its zone, or
+    /// a precision or a scale over 38, or the type is nested more than once.
     pub fn is_bad_target(&self) -> bool
         ensures value { result ≡ is_bad_target self.now }
     {
