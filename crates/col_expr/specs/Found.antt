@@ -1,9 +1,14 @@
 -- What the evaluation of a part of an expression answers.
-use Rattle.std.specs.Prelude.{◌≡◌, ℕ, List, length, Option, Some, None, Result, Ok, Err}
+use Rattle.std.specs.Prelude.{◌≡◌, ℕ, List, length, Option, Some, None, Result, Ok, Err, if◌then◌else◌}
+use Rattle.col_types.specs.DataType.{is_expression_target}
+use Rattle.col_types.specs.declared.data_type.DataType.{DataType}
+use Rattle.col_types.specs.declared.cast_options.CastOptions.{CastOptions}
 use Rattle.col_types.specs.declared.error.PolarsError.{PolarsError}
 use Rattle.col_model.specs.Column.{Column}
 use Rattle.col_model.specs.Broadcast.{column_slots}
+use Rattle.col_model.specs.ColumnCalls.{cast_of}
 use Rattle.col_expr.specs.declared.error.EvalError.{EvalError}
+use Rattle.col_expr.specs.declared.error.EvalError.TheVariants as refusals
 use Rattle.col_expr.specs.Tree.{Tree}
 use Rattle.col_expr.specs.Meaning.{name_of, dtype_of, rows_of, slot_at, flag_of}
 use Rattle.col_expr.specs.Refusal.{at_node, first_refusal, Unless}
@@ -38,3 +43,9 @@ IsFound inputs first tree answer = IsFoundBy inputs (first_refusal inputs first 
 abbrev pub numbered : {T : Type 0} → ℕ → Result T PolarsError → Result T EvalError
 numbered node (Ok x) = Ok x
 numbered node (Err e) = Err (at_node node e)
+
+-- a cast's answer as that of a node: a target that no expression can have is refused first
+abbrev pub cast_at : ℕ → Column → DataType → CastOptions → Result Column EvalError
+cast_at node column target options =
+    if is_expression_target target then numbered node (cast_of column target options)
+    else Err (refusals.BadType node)

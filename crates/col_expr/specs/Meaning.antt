@@ -1,5 +1,5 @@
 -- The name, the type, the rows and each slot of a node, over the columns that an expression is given.
-use Rattle.std.specs.Prelude.{ℕ, ℤ, ◌+◌, List, [], length, Option, Some, None, slice_get, slice_index_or, unwrap_or, if◌then◌else◌}
+use Rattle.std.specs.Prelude.{ℕ, ℤ, ◌+◌, Bool, false, List, [], length, Option, Some, None, slice_get, slice_index_or, unwrap_or, if◌then◌else◌}
 use Rattle.std.specs.Option.{option_map, option_and_then}
 use Rattle.col_types.specs.DataType.{is_expression_target}
 use Rattle.col_types.specs.declared.data_type.DataType.{DataType, Boolean}
@@ -14,7 +14,7 @@ use Rattle.col_model.specs.Column.{Column}
 use Rattle.col_model.specs.Broadcast.{column_slots, broadcast_length, operand_row, row_before}
 use Rattle.col_model.specs.CastTable.{CastRule, cast_rule, resolved_target}
 use Rattle.col_model.specs.OperatorTable.{OperatorRule, operator_rule}
-use Rattle.col_model.specs.ScalarTable.{scalar_right_rule, scalar_left_rule, unit_change_rule}
+use Rattle.col_model.specs.ScalarTable.{scalar_right_rule, scalar_left_rule, is_scalar_of, unit_change_rule}
 use Rattle.col_model.specs.ColumnCalls.{cast_slot}
 use Rattle.col_model.specs.OperatorCalls.{slot_by, slots_by}
 use Rattle.col_expr.specs.Tree.{Tree, Input, Cast, Binary, ScalarRight, ScalarLeft, InUnit, Shift}
@@ -66,6 +66,15 @@ abbrev pub rule_slots : Option OperatorRule → Option Value → Option Value �
 rule_slots None left right = None
 rule_slots (Some rule) left right = slots_by rule left right
 
+-- whether the operand's type has a word, and the word has the integer
+abbrev pub is_scalar_for : Option DataType → ℤ → Bool
+is_scalar_for None k = false
+is_scalar_for (Some dtype) k = is_scalar_of dtype k
+
+-- the slot of a scalar's row, null where the operand's word doesn't have the integer
+abbrev pub scalar_slot : Option DataType → ℤ → Option OperatorRule → Option Value → Option Value
+scalar_slot dtype k rule slot = if is_scalar_for dtype k then rule_slot rule slot else None
+
 -- ---- a node
 
 -- the name of the leftmost input
@@ -114,8 +123,10 @@ slot_at inputs (Binary op left right) row =
     rule_slots (operator_rule_for op (dtype_of inputs left) (dtype_of inputs right))
     (slot_at inputs left (operand_row (row_count inputs left) row))
     (slot_at inputs right (operand_row (row_count inputs right) row))
-slot_at inputs (ScalarRight operand op value) row = rule_slot (scalar_right_rule_for (dtype_of inputs operand) op value) (slot_at inputs operand row)
-slot_at inputs (ScalarLeft value op operand) row = rule_slot (scalar_left_rule_for value op (dtype_of inputs operand)) (slot_at inputs operand row)
+slot_at inputs (ScalarRight operand op k) row =
+    scalar_slot (dtype_of inputs operand) k (scalar_right_rule_for (dtype_of inputs operand) op k) (slot_at inputs operand row)
+slot_at inputs (ScalarLeft k op operand) row =
+    scalar_slot (dtype_of inputs operand) k (scalar_left_rule_for k op (dtype_of inputs operand)) (slot_at inputs operand row)
 slot_at inputs (InUnit operand unit) row = rule_slot (unit_change_rule_for (dtype_of inputs operand) unit) (slot_at inputs operand row)
 slot_at inputs (Shift operand periods) row = option_and_then (slot_at inputs operand) (row_before (row_count inputs operand) periods row)
 

@@ -1,5 +1,5 @@
 -- Which node of an expression is refused first, and why.
-use Rattle.std.specs.Prelude.{◌≡◌, ℕ, ◌+◌, ℤ, Bool, false, nat_lt, List, length, Option, Some, None, Result, Ok, Err, if◌then◌else◌}
+use Rattle.std.specs.Prelude.{◌≡◌, ℕ, ◌+◌, ℤ, nat_lt, List, length, Option, Some, None, Result, Ok, Err, if◌then◌else◌}
 use Rattle.std.specs.Option.{option_map}
 use Rattle.col_types.specs.DataType.{is_expression_target}
 use Rattle.col_types.specs.declared.data_type.DataType.{DataType}
@@ -10,12 +10,11 @@ use Rattle.col_model.specs.Column.{Column}
 use Rattle.col_model.specs.Value.{Value}
 use Rattle.col_model.specs.Broadcast.{column_slots}
 use Rattle.col_model.specs.OperatorTable.{OperatorRule}
-use Rattle.col_model.specs.ScalarTable.{is_scalar_of}
 use Rattle.col_model.specs.ColumnCalls.{pair_refusal, unless_refused}
 use Rattle.col_expr.specs.declared.error.EvalError.{EvalError}
 use Rattle.col_expr.specs.declared.error.EvalError.TheVariants as refusals
 use Rattle.col_expr.specs.Tree.{Tree, Input, Cast, Binary, ScalarRight, ScalarLeft, InUnit, Shift, node_count}
-use Rattle.col_expr.specs.Meaning.{dtype_of, rows_of, row_count, slot_at, cast_rule_for, operator_rule_for, scalar_right_rule_for, scalar_left_rule_for, unit_change_rule_for, broadcast_length_for, result_column}
+use Rattle.col_expr.specs.Meaning.{dtype_of, rows_of, row_count, slot_at, cast_rule_for, operator_rule_for, scalar_right_rule_for, scalar_left_rule_for, is_scalar_for, unit_change_rule_for, broadcast_length_for, result_column}
 
 -- a column's refusal as that of a node. No call that a node makes is refused for the last causes.
 abbrev pub at_node : ℕ → PolarsError → EvalError
@@ -54,11 +53,6 @@ cast_refusal_at node from target options slots =
 abbrev pub unsupported_at : ℕ → Option OperatorRule → Option EvalError
 unsupported_at node None = Some (refusals.Unsupported node)
 unsupported_at node (Some rule) = None
-
--- whether the operand's type has a word, and the word has the integer
-abbrev pub is_scalar_for : Option DataType → ℤ → Bool
-is_scalar_for None k = false
-is_scalar_for (Some dtype) k = is_scalar_of dtype k
 
 -- an operand and an integer are refused for the type, and then for the integer
 abbrev pub scalar_refusal_at : ℕ → Option DataType → ℤ → Option OperatorRule → Option EvalError

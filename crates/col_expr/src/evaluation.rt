@@ -2,14 +2,13 @@
 ghost use Rattle.std.specs.Prelude.{◌≡◌, ◌+◌, ◌≤◌, ◌<◌, true, OnOk, IfOk, length, Result};
 ghost use Rattle.col_types.specs.declared.error.PolarsError.{PolarsError};
 ghost use Rattle.col_types.specs.PolarsError as column_calls;
-ghost use Rattle.col_model.specs.Column.{Column, is_column_type};
-ghost use Rattle.col_model.specs.ColumnCalls.{cast_of};
+ghost use Rattle.col_model.specs.Column.{Column};
 ghost use Rattle.col_expr.specs.Tree.{node_count, Input, max_nodes};
-ghost use Rattle.col_expr.specs.Built.{is_built};
+ghost use Rattle.col_expr.specs.Built.{is_built, is_built_cast};
 ghost use Rattle.col_expr.specs.Node.{node_tree};
 ghost use Rattle.col_expr.specs.Meaning.{step_count};
 ghost use Rattle.col_expr.specs.Refusal.{Gives, outcome};
-ghost use Rattle.col_expr.specs.Found.{IsFound, numbered};
+ghost use Rattle.col_expr.specs.Found.{IsFound, numbered, cast_at};
 
 use crate::error::EvalError;
 use crate::expr::Expr;
@@ -104,17 +103,21 @@ fn input_column(alloc: Global, inputs: &Inputs, index: u32, node: u32) -> Result
     }
 }
 
+// A target that no expression can have is refused before the column is looked at.
 fn cast_column(
     alloc: Global,
     column: &Series,
-    dtype: &DataType,
+    target: &DataType,
     options: CastOptions,
     node: u32,
 ) -> Result<Series, EvalError>
-    requires column_type { is_column_type dtype.now ≡ true }
-    ensures cast { Gives result (numbered node (cast_of column.now dtype.now options)) }
+    requires built { is_built_cast target.now ≡ true }
+    ensures cast { Gives result (cast_at node column.now target.now options) }
 {
-    at_node(column.cast_with_options(alloc, dtype, options), node)
+    if !target.is_expression_target() {
+        return Err(EvalError::BadType { node });
+    }
+    at_node(column.cast_with_options(alloc, target, options), node)
 }
 
 // A column's answer as that of a node.
@@ -125,6 +128,10 @@ fn at_node(answer: PolarsResult<Series>, node: u32) -> Result<Series, EvalError>
     match answer {
         Ok(column) => Ok(column),
         Err(PolarsError::CastPair { .. }) => Err(EvalError::Unsupported { node }),
+        Err(PolarsError::Types { .. }) => Err(EvalError::Unsupported { node }),
+        Err(PolarsError::Scale { .. }) => Err(EvalError::Unsupported { node }),
+        Err(PolarsError::BadType { .. }) => Err(EvalError::BadType { node }),
+        Err(PolarsError::Scalar { .. }) => Err(EvalError::Scalar { node }),
         Err(PolarsError::Strict { row }) => Err(EvalError::Strict { node, row }),
         Err(_) => Err(EvalError::NoMemory),
     }

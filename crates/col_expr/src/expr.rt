@@ -1,9 +1,8 @@
 // Building an expression.
 ghost use Rattle.std.specs.Prelude.{◌≡◌, ◌+◌, ◌≤◌, ◌↔◌, true, OnOk, IfOk, IfErr, IfSome, IsNone, None};
-ghost use Rattle.col_model.specs.Column.{is_column_type};
 ghost use Rattle.col_expr.specs.Tree.{node_count, depth_of, Input, Cast, max_nodes, max_depth, is_within_limits};
 ghost use Rattle.col_expr.specs.Node.{node_tree};
-ghost use Rattle.col_expr.specs.Built.{is_built, IsRefusedFor};
+ghost use Rattle.col_expr.specs.Built.{is_built, is_built_cast, IsRefusedFor};
 
 use crate::error::{ExprCause, ExprRefused};
 use crate::node::Node;
@@ -58,7 +57,7 @@ impl Expr {
         dtype: DataType,
         options: CastOptions,
     ) -> Result<Expr, ExprRefused>
-        requires column_type { is_column_type dtype ≡ true }
+        requires built { is_built_cast dtype ≡ true }
         ensures tree { IfOk result (λ e. e ≡ Cast operand dtype options) }
         ensures fits { OnOk result (is_within_limits (Cast operand dtype options) ≡ true) }
         ensures refused { IfErr result (λ r.

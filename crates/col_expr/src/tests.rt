@@ -1,6 +1,7 @@
 // That calls succeed, what they answer, and how deep they go.
 ghost use Rattle.std.specs.Prelude.{◌≡◌, ◌<◌, true};
-ghost use Rattle.col_model.specs.Column.{is_column_type};
+ghost use Rattle.col_model.specs.Column.{is_built_type};
+ghost use Rattle.col_expr.specs.Built.{is_built_cast};
 
 use super::*;
 use col_series::{AnyValue, PlSmallStr};
@@ -10,7 +11,8 @@ use std::sync::ledger::{Blank, Ledger};
 use std::test::Fail;
 
 fn moments(unit: TimeUnit) -> DataType
-    ensures column_type { is_column_type result ≡ true }
+    ensures built { is_built_type result ≡ true }
+    ensures target { is_built_cast result ≡ true }
 {
     DataType::Datetime(unit, None)
 }
@@ -26,7 +28,7 @@ fn one_input(alloc: Global, unit: TimeUnit, slots: &[Option<i128>]) -> Result<In
 }
 
 fn cast(alloc: Global, operand: Expr, dtype: DataType, options: CastOptions) -> Result<Expr, Fail>
-    requires column_type { is_column_type dtype ≡ true }
+    requires built { is_built_cast dtype ≡ true }
 {
     match Expr::cast(alloc, operand, dtype, options) {
         Ok(expr) => Ok(expr),
@@ -98,7 +100,14 @@ fn refusals_name_the_first_refused_node(rt: HostRuntime) -> Result<(), Fail> {
         moments(TimeUnit::Nanoseconds),
         CastOptions::Strict,
     )?;
+    let text = cast(
+        alloc,
+        Expr::input(0),
+        DataType::String,
+        CastOptions::NonStrict,
+    )?;
     for (given, wanted) in [
+        (text, EvalError::BadType { node: 1 }),
         (
             past,
             EvalError::NoColumn {

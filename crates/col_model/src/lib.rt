@@ -4,7 +4,7 @@
 mod laws;
 mod ticks;
 
-pub use col_types::TimeUnit;
+pub use col_types::{CastOptions, TimeUnit};
 pub use laws::{floor_rounds_down, known_datetimes, known_durations, trunc_rounds_towards_zero};
 pub use ticks::{
     UnitChange, datetime_by, datetime_in_unit, day_in_unit, day_of, duration_by, duration_in_unit,
