@@ -1,28 +1,23 @@
--- What a node's answer is, from those of its operands.
-use Rattle.std.proofs.Common.{◌≡◌, ℕ, ◌+◌, List, length, map, Option, Some, None, refl, sym, ap, ◌∙◌, subst, arith, Result, Ok, Err, slice_get, nat_lt, IfOk, OnOk, Bool, true, false, ◌&&◌, not, lt-ltb}
+-- What a part of an expression answers, where the answer that is due is known.
+use Rattle.std.proofs.Common.{◌≡◌, ℕ, ◌+◌, ◌<◌, List, length, get_or, Option, Some, None, refl, sym, ap, ◌∙◌, subst, arith, Result, Ok, Err, slice_get, nat_lt, IfOk, OnOk, Bool, true, false, lt-ltb}
 use Rattle.std.specs.Prelude.{if◌then◌else◌, unwrap_or}
 use Rattle.std.specs.Option.{option_map}
 use Rattle.std.proofs.lemmas.Bool.Decides.{nat_tests}
 use Rattle.std.proofs.lemmas.Option.{slice_get_within, slice_get_cases}
-use Rattle.std.proofs.lemmas.List.{length-map}
-use Rattle.col_types.specs.DataType.{kind_of, holds_integers, is_bad_target, is_expression_target}
-use Rattle.col_types.specs.declared.data_type.DataType.{DataType}
-use Rattle.col_types.specs.declared.cast_options.CastOptions.{CastOptions}
 use Rattle.col_types.specs.declared.error.PolarsError.{PolarsError}
-use Rattle.col_types.specs.declared.error.PolarsError.TheVariants as errors
 use Rattle.col_model.specs.Column.{Column}
 use Rattle.col_model.specs.Broadcast.{column_slots}
-use Rattle.col_model.specs.CastTable.{cast_rule, resolved_target}
-use Rattle.col_model.specs.ColumnCalls.{unless_refused, pair_refusal, cast_slot, cast_column}
+use Rattle.col_model.specs.OperatorCalls.{slot_in}
 use Rattle.col_expr.specs.declared.error.EvalError.{EvalError}
 use Rattle.col_expr.specs.declared.error.EvalError.TheVariants as refusals
-use Rattle.col_expr.specs.Tree.{Tree, Input, Cast, node_count}
-use Rattle.col_expr.specs.Meaning.{row_count, cast_dtype, slot_at, input_slot, cast_rule_for, step_count}
-use Rattle.col_expr.specs.Refusal.{at_node, cast_refusal_at, refusal_at, or_else, first_refusal, Unless, Gives}
-use Rattle.col_expr.specs.Found.{IsColumnOf, IsFine, IsFineBy, IsFound, IsFoundBy, numbered, cast_at}
-use Rattle.col_expr.proofs.Slots.{column_slots-own, map-column_slots}
+use Rattle.col_expr.specs.Tree.{Tree, Input}
+use Rattle.col_expr.specs.Meaning.{row_count, slot_at, input_slot, step_count}
+use Rattle.col_expr.specs.Refusal.{at_node, first_refusal, Unless, Gives}
+use Rattle.col_expr.specs.Found.{IsColumnOf, IsFineBy, IsFound, IsFoundBy, numbered}
+use Rattle.col_expr.proofs.Slots.{column_slots-own, get_or-column_slots}
 
-Unless-map : (e : EvalError) {P Q : Type 0} → (P → Q) → Unless e P → Unless e Q
+-- from one fact that is owed to another
+pub Unless-map : (e : EvalError) {P Q : Type 0} → (P → Q) → Unless e P → Unless e Q
 Unless-map (refusals.NoColumn node index count) f p = f p
 Unless-map (refusals.Lengths node left right) f p = f p
 Unless-map (refusals.BadType node) f p = f p
@@ -48,73 +43,26 @@ found_due inputs refused t (Err e) (Ok x) is gives = cc
 found_due inputs refused t (Err e) (Err error) is gives =
     Unless-map error (λ h. let at : e ≡ error = cc in is ∙ ap Some at) gives
 
-row_count-is : (inputs : List Column) (t : Tree) (c : Column) → IsColumnOf inputs t c →
+pub row_count-is : (inputs : List Column) (t : Tree) (c : Column) → IsColumnOf inputs t c →
     row_count inputs t ≡ length c.slots
 row_count-is inputs t c is = ap (λ rows. unwrap_or rows 0) is.long
 
--- the column of a cast
-column_of_cast : (inputs : List Column) (e : Tree) (c : Column) (d : DataType) (o : CastOptions) →
-    IsColumnOf inputs e c → is_expression_target d ≡ true →
-    IsColumnOf inputs (Cast e d o) (cast_column c d (cast_rule c.dtype d o))
-column_of_cast inputs e c d o is target =
-    let f = cast_slot (cast_rule c.dtype d o) in
-    let n = length c.slots in
-    record {
-      named = is.named;
-      typed = ap (λ from. cast_dtype from d) is.typed
-          ∙ ap (λ b. if b then Some (resolved_target c.dtype d) else None) target;
-      long = is.long ∙ ap Some (sym (length-map c.slots f));
-      filled = ap (map f) is.filled ∙ map-column_slots f (slot_at inputs e) n
-          ∙ ap (λ from. column_slots
-          (λ row. cast_slot (cast_rule_for from d o) (slot_at inputs e row)) n) (sym is.typed)
-          ∙ ap (column_slots (slot_at inputs (Cast e d o))) (sym (length-map c.slots f));
-      flagged = refl;
-    }
+-- a column's slot in a row is the tree's
+pub slot_in-is : (inputs : List Column) (t : Tree) (c : Column) (row : ℕ) →
+    IsColumnOf inputs t c → row < length c.slots → slot_in c row ≡ slot_at inputs t row
+slot_in-is inputs t c row is h =
+    ap (λ slots. get_or slots row None) is.filled
+    ∙ get_or-column_slots (slot_at inputs t) (length c.slots) row h
 
--- the refusal of a cast over an operand that is found
-refusal_of_cast : (inputs : List Column) (first node : ℕ) (e : Tree) (c : Column) (d : DataType)
-    (o : CastOptions) → node ≡ first + node_count e → IsFine inputs first e c →
-    first_refusal inputs first (Cast e d o) ≡ cast_refusal_at node (Some c.dtype) d o c.slots
-refusal_of_cast inputs first node e c d o at operand =
-    let is = operand.column_is in
-    ap (λ refused. or_else refused (refusal_at inputs (first + node_count e) (Cast e d o)))
-    operand.fine
-    ∙ ap (λ number. refusal_at inputs number (Cast e d o)) (sym at)
-    ∙ ap (λ from. cast_refusal_at node from d o
-    (column_slots (slot_at inputs e) (row_count inputs e))) is.typed
-    ∙ ap (cast_refusal_at node (Some c.dtype) d o)
-    (ap (column_slots (slot_at inputs e)) (row_count-is inputs e c is) ∙ sym is.filled)
-
--- what a cast answers, by whether its target is one of an expression, and by the pair's refusal
-due_cast : (inputs : List Column) (refused : Option EvalError) (node : ℕ) (t : Tree)
-    (column : Column) (holds bad : Bool) (first second : Option PolarsError) →
-    refused ≡ (if holds && not bad then option_map (at_node node) second
-    else Some (refusals.BadType node)) →
-    ((holds && not bad) ≡ true → IsColumnOf inputs t column) →
-    IsDueBy inputs refused t (if holds && not bad
-    then numbered node (unless_refused (if bad then first else second) column)
-    else Err (refusals.BadType node))
-due_cast inputs refused node t column false bad first second same is = same
-due_cast inputs refused node t column true true first second same is = same
-due_cast inputs refused node t column true false first None same is =
+-- an answer that was given by a call is the node's
+pub due_by : (inputs : List Column) (refused : Option EvalError) (node : ℕ) (t : Tree)
+    (column : Column) (error : PolarsError) (holds : Bool) →
+    refused ≡ (if holds then None else Some (at_node node error)) →
+    (holds ≡ true → IsColumnOf inputs t column) →
+    IsDueBy inputs refused t (numbered node (if holds then Ok column else Err error))
+due_by inputs refused node t column error true same is =
     record { fine = same; column_is = is refl }
-due_cast inputs refused node t column true false first (Some e) same is = same
-
--- a cast over an operand that is found
-pub found_cast : (inputs : List Column) (first node : ℕ) (e : Tree) (c : Column) (d : DataType)
-    (o : CastOptions) (answer : Result Column EvalError) → node ≡ first + node_count e →
-    IsFine inputs first e c → Gives answer (cast_at node c d o) →
-    IsFound inputs first (Cast e d o) answer
-found_cast inputs first node e c d o answer at operand gives =
-    found_due inputs (first_refusal inputs first (Cast e d o)) (Cast e d o) (cast_at node c d o)
-    answer
-    (due_cast inputs (first_refusal inputs first (Cast e d o)) node (Cast e d o)
-    (cast_column c d (cast_rule c.dtype d o)) (holds_integers d) (is_bad_target d)
-    (Some (errors.BadType (kind_of d)))
-    (pair_refusal c.dtype d o (cast_rule c.dtype d o) c.slots)
-    (refusal_of_cast inputs first node e c d o at operand)
-    (column_of_cast inputs e c d o operand.column_is))
-    gives
+due_by inputs refused node t column error false same is = same
 
 -- the column of an input
 column_of_input : (inputs : List Column) (index : ℕ) (c : Column) →
@@ -151,14 +99,14 @@ no_input inputs node index none =
     ap (λ b. if b then None else Some (refusals.NoColumn node index (length inputs)))
     (not_below inputs index none)
 
--- the steps of a cast, from those of its operand and the slots of its column
-pub steps_above : (inputs : List Column) (first before mid after : ℕ) (e : Tree) (d : DataType)
-    (o : CastOptions) (answer : Result Column EvalError) →
-    IsFound inputs first (Cast e d o) answer → mid ≡ before + step_count inputs e →
+-- the steps of a node, from those below it and the slots of its column
+pub steps_above : (inputs : List Column) (first before mid after below : ℕ) (t : Tree)
+    (answer : Result Column EvalError) → step_count inputs t ≡ below + row_count inputs t →
+    IsFound inputs first t answer → mid ≡ before + below →
     IfOk answer (λ column. after ≡ mid + length column.slots) →
-    OnOk answer (after ≡ before + step_count inputs (Cast e d o))
-steps_above inputs first before mid after e d o (Ok column) found low high =
-    let rows : row_count inputs e ≡ length column.slots =
-    row_count-is inputs (Cast e d o) column found.column_is in
-    omega (arith, rows, low, high)
-steps_above inputs first before mid after e d o (Err error) found low high = tt
+    OnOk answer (after ≡ before + step_count inputs t)
+steps_above inputs first before mid after below t (Ok column) all found low high =
+    let rows : row_count inputs t ≡ length column.slots =
+    row_count-is inputs t column found.column_is in
+    omega (arith, all, rows, low, high)
+steps_above inputs first before mid after below t (Err error) all found low high = tt

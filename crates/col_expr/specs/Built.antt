@@ -1,21 +1,35 @@
 -- Which trees an expression can hold so far, and why one is not built.
-use Rattle.std.specs.Prelude.{◌≡◌, ℕ, ◌<◌, ◌≤◌, Bool, true, false, not, ◌&&◌, ◌||◌}
+use Rattle.std.specs.Prelude.{◌≡◌, ℕ, ◌<◌, ◌≤◌, Bool, true, not, ◌&&◌, ◌||◌}
 use Rattle.col_types.specs.DataType.{is_temporal, holds_integers}
 use Rattle.col_types.specs.declared.data_type.DataType.{DataType}
 use Rattle.col_expr.specs.declared.error.ExprCause.{ExprCause}
 use Rattle.col_expr.specs.declared.error.ExprCause.TheVariants as causes
-use Rattle.col_expr.specs.Tree.{Tree, Input, Cast, node_count, depth_of, max_nodes, max_depth}
+use Rattle.col_expr.specs.declared.node.UnaryOp.{UnaryOp}
+use Rattle.col_expr.specs.declared.node.UnaryOp.TheVariants as operations
+use Rattle.col_expr.specs.Tree.{Tree, Input, Cast, Binary, ScalarRight, ScalarLeft, InUnit, Shift, node_count, depth_of, max_nodes, max_depth}
 
 -- whether a cast to the target is built: integers, booleans and decimals have no columns yet, and
 -- texts, bytes and nested types are refused when they are evaluated
 abbrev pub is_built_cast : DataType → Bool
 is_built_cast target = is_temporal target || not (holds_integers target)
 
--- inputs, and casts to built targets
+-- whether each cast of a tree is built
 abbrev pub is_built : Tree → Bool
 is_built (Input index) = true
 is_built (Cast operand target options) = is_built_cast target && is_built operand
-is_built _ = false
+is_built (Binary op left right) = is_built left && is_built right
+is_built (ScalarRight operand op k) = is_built operand
+is_built (ScalarLeft k op operand) = is_built operand
+is_built (InUnit operand unit) = is_built operand
+is_built (Shift operand periods) = is_built operand
+
+-- whether an operation is built
+abbrev pub is_built_operation : UnaryOp → Bool
+is_built_operation (operations.Cast target options) = is_built_cast target
+is_built_operation (operations.ScalarRight op k) = true
+is_built_operation (operations.ScalarLeft k op) = true
+is_built_operation (operations.InUnit unit) = true
+is_built_operation (operations.Shift periods) = true
 
 -- the two counts are the tree's and within the limits, and the tree is one that can be held
 pub record IsExpr (nodes depth : ℕ) (tree : Tree) : Type 0 where

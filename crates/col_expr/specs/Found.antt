@@ -7,8 +7,11 @@ use Rattle.col_types.specs.declared.error.PolarsError.{PolarsError}
 use Rattle.col_model.specs.Column.{Column}
 use Rattle.col_model.specs.Broadcast.{column_slots}
 use Rattle.col_model.specs.ColumnCalls.{cast_of}
+use Rattle.col_model.specs.OperatorCalls.{scalar_right_of, scalar_left_of, in_unit_of, shifted}
 use Rattle.col_expr.specs.declared.error.EvalError.{EvalError}
 use Rattle.col_expr.specs.declared.error.EvalError.TheVariants as refusals
+use Rattle.col_expr.specs.declared.node.UnaryOp.{UnaryOp}
+use Rattle.col_expr.specs.declared.node.UnaryOp.TheVariants as operations
 use Rattle.col_expr.specs.Tree.{Tree}
 use Rattle.col_expr.specs.Meaning.{name_of, dtype_of, rows_of, slot_at, flag_of}
 use Rattle.col_expr.specs.Refusal.{at_node, first_refusal, Unless}
@@ -49,3 +52,11 @@ abbrev pub cast_at : ℕ → Column → DataType → CastOptions → Result Colu
 cast_at node column target options =
     if is_expression_target target then numbered node (cast_of column target options)
     else Err (refusals.BadType node)
+
+-- the answer of a node that does one operation with its operand's column
+abbrev pub unary_at : ℕ → UnaryOp → Column → Result Column EvalError
+unary_at node (operations.Cast target options) column = cast_at node column target options
+unary_at node (operations.ScalarRight op k) column = numbered node (scalar_right_of column op k)
+unary_at node (operations.ScalarLeft k op) column = numbered node (scalar_left_of k op column)
+unary_at node (operations.InUnit unit) column = numbered node (in_unit_of column unit)
+unary_at node (operations.Shift periods) column = Ok (shifted column periods)

@@ -1,9 +1,20 @@
 -- The tree that a node stands for.
-use Rattle.col_expr.specs.Tree.{Tree, Input, Cast}
+use Rattle.col_expr.specs.Tree.{Tree, Input, Cast, Binary, ScalarRight, ScalarLeft, InUnit, Shift}
 use Rattle.col_expr.specs.declared.node.Node.{Node}
 use Rattle.col_expr.specs.declared.node.Node.TheVariants as nodes
+use Rattle.col_expr.specs.declared.node.UnaryOp.{UnaryOp}
+use Rattle.col_expr.specs.declared.node.UnaryOp.TheVariants as operations
+
+-- an operation over its operand
+abbrev pub over : UnaryOp → Tree → Tree
+over (operations.Cast target options) operand = Cast operand target options
+over (operations.ScalarRight op k) operand = ScalarRight operand op k
+over (operations.ScalarLeft k op) operand = ScalarLeft k op operand
+over (operations.InUnit unit) operand = InUnit operand unit
+over (operations.Shift periods) operand = Shift operand periods
 
 -- without where it lies in memory
 abbrev pub node_tree : Node → Tree
 node_tree (nodes.Input index) = Input index
-node_tree (nodes.Cast' place operand dtype options) = Cast (node_tree operand) dtype options
+node_tree (nodes.Unary' operation place operand) = over operation (node_tree operand)
+node_tree (nodes.Binary' op place left second right) = Binary op (node_tree left) (node_tree right)

@@ -1,21 +1,19 @@
 // Evaluating an expression.
-ghost use Rattle.std.specs.Prelude.{◌≡◌, ◌+◌, ◌≤◌, ◌<◌, true, OnOk, IfOk, length, Result};
-ghost use Rattle.col_types.specs.declared.error.PolarsError.{PolarsError};
-ghost use Rattle.col_types.specs.PolarsError as column_calls;
-ghost use Rattle.col_model.specs.Column.{Column};
+ghost use Rattle.std.specs.Prelude.{◌≡◌, ◌+◌, ◌≤◌, ◌<◌, true, OnOk, IfOk, length};
 ghost use Rattle.col_expr.specs.Tree.{node_count, Input, max_nodes};
-ghost use Rattle.col_expr.specs.Built.{is_built, is_built_cast};
+ghost use Rattle.col_expr.specs.Built.{is_built};
 ghost use Rattle.col_expr.specs.Node.{node_tree};
 ghost use Rattle.col_expr.specs.Meaning.{step_count};
 ghost use Rattle.col_expr.specs.Refusal.{Gives, outcome};
-ghost use Rattle.col_expr.specs.Found.{IsFound, numbered, cast_at};
+ghost use Rattle.col_expr.specs.Found.{IsFound};
 
 use crate::error::EvalError;
 use crate::expr::Expr;
 use crate::inputs::Inputs;
 use crate::node::Node;
+use crate::operations::{at_node, binary_column, unary_column};
 use crate::steps::Steps;
-use col_series::{CastOptions, DataType, PolarsError, PolarsResult, Series};
+use col_series::Series;
 use std::alloc::Global;
 use std::sync::ledger::Ledger;
 
@@ -54,10 +52,16 @@ fn evaluate_node<L: Ledger>(
             let number = take_number(next);
             input_column(alloc, inputs, *index, number)
         }
-        Node::Cast(operand, dtype, options) => {
+        Node::Unary(operation, operand) => {
             let column = evaluate_node(alloc, operand, inputs, next, steps)?;
             let number = take_number(next);
-            counted(cast_column(alloc, &column, dtype, *options, number), steps)
+            counted(unary_column(alloc, operation, &column, number), steps)
+        }
+        Node::Binary(op, left, right) => {
+            let left = evaluate_node(alloc, left, inputs, next, steps)?;
+            let right = evaluate_node(alloc, right, inputs, next, steps)?;
+            let number = take_number(next);
+            counted(binary_column(alloc, *op, &left, &right, number), steps)
         }
     }
 }
@@ -100,39 +104,5 @@ fn input_column(alloc: Global, inputs: &Inputs, index: u32, node: u32) -> Result
             index,
             count: inputs.len(),
         }),
-    }
-}
-
-// A target that no expression can have is refused before the column is looked at.
-fn cast_column(
-    alloc: Global,
-    column: &Series,
-    target: &DataType,
-    options: CastOptions,
-    node: u32,
-) -> Result<Series, EvalError>
-    requires built { is_built_cast target.now ≡ true }
-    ensures cast { Gives result (cast_at node column.now target.now options) }
-{
-    if !target.is_expression_target() {
-        return Err(EvalError::BadType { node });
-    }
-    at_node(column.cast_with_options(alloc, target, options), node)
-}
-
-// A column's answer as that of a node.
-fn at_node(answer: PolarsResult<Series>, node: u32) -> Result<Series, EvalError>
-    ensures answer { (expected : Result Column PolarsError) →
-        column_calls.Gives answer expected → Gives result (numbered node expected) }
-{
-    match answer {
-        Ok(column) => Ok(column),
-        Err(PolarsError::CastPair { .. }) => Err(EvalError::Unsupported { node }),
-        Err(PolarsError::Types { .. }) => Err(EvalError::Unsupported { node }),
-        Err(PolarsError::Scale { .. }) => Err(EvalError::Unsupported { node }),
-        Err(PolarsError::BadType { .. }) => Err(EvalError::BadType { node }),
-        Err(PolarsError::Scalar { .. }) => Err(EvalError::Scalar { node }),
-        Err(PolarsError::Strict { row }) => Err(EvalError::Strict { node, row }),
-        Err(_) => Err(EvalError::NoMemory),
     }
 }

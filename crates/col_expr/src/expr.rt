@@ -1,12 +1,29 @@
 // Building an expression.
-ghost use Rattle.std.specs.Prelude.{◌≡◌, ◌+◌, ◌≤◌, ◌↔◌, true, OnOk, IfOk, IfErr, IfSome, IsNone, None};
-ghost use Rattle.col_expr.specs.Tree.{node_count, depth_of, Input, Cast, max_nodes, max_depth, is_within_limits};
-ghost use Rattle.col_expr.specs.Node.{node_tree};
-ghost use Rattle.col_expr.specs.Built.{is_built, is_built_cast, IsRefusedFor};
+ghost use Rattle.std.specs.Prelude.{◌≡◌, ◌+◌, ◌≤◌, ◌↔◌, max, true, OnOk, IfOk, IfErr};
+ghost use Rattle.std.specs.Prelude.{IfSome, IsNone, Some, None};
+ghost use Rattle.col_expr.specs.Tree.{
+  Input,
+  Cast,
+  Binary,
+  ScalarRight,
+  ScalarLeft,
+  InUnit,
+  Shift,
+};
+ghost use Rattle.col_expr.specs.Tree.{
+  node_count,
+  depth_of,
+  max_nodes,
+  max_depth,
+  is_within_limits,
+};
+ghost use Rattle.col_expr.specs.Node.{over, node_tree};
+ghost use Rattle.col_expr.specs.Built.{is_built, is_built_cast, is_built_operation, IsRefusedFor};
 
 use crate::error::{ExprCause, ExprRefused};
-use crate::node::Node;
-use col_series::{CastOptions, DataType};
+use crate::node::{Node, UnaryOp};
+use col_series::{CastOptions, DataType, TimeUnit};
+use col_types::{BinOp, ScalarOp};
 use std::alloc::Global;
 use std::marker::Model;
 
@@ -64,30 +81,108 @@ impl Expr {
             IsRefusedFor (node_count operand + 1) (depth_of operand + 1) r.cause) }
         ensures back { IfErr result (λ r. (r.left ≡ operand) × (r.right ≡ None)) }
     {
-        if let Some(cause) = refusal(operand.nodes + 1, operand.depth + 1) {
+        unary(alloc, UnaryOp::Cast(dtype, options), operand)
+    }
+
+    /// The two operands joined. Refused as `cast`, with both operands handed back.
+    pub fn binary(alloc: Global, op: BinOp, left: Expr, right: Expr) -> Result<Expr, ExprRefused>
+        ensures tree { IfOk result (λ e. e ≡ Binary op left right) }
+        ensures fits { OnOk result (is_within_limits (Binary op left right) ≡ true) }
+        ensures refused { IfErr result (λ r.
+            IsRefusedFor (node_count left + node_count right + 1)
+            (max (depth_of left) (depth_of right) + 1) r.cause) }
+        ensures back { IfErr result (λ r. (r.left ≡ left) × (r.right ≡ Some right)) }
+    {
+        let nodes = left.nodes + right.nodes + 1;
+        let depth = left.depth.max(right.depth) + 1;
+        if let Some(cause) = refusal(nodes, depth) {
             return Err(ExprRefused {
                 cause,
-                left: operand,
-                right: None,
+                left,
+                right: Some(right),
             });
         }
-        let Expr { nodes, depth, root } = operand;
-        match Box::new(alloc, root) {
-            Ok(root) => Ok(Expr {
-                nodes: nodes + 1,
-                depth: depth + 1,
-                root: Node::Cast(root, dtype, options),
+        let (left_nodes, left_depth) = (left.nodes, left.depth);
+        let left = match boxed(alloc, left) {
+            Ok(root) => root,
+            Err(left) => {
+                return Err(ExprRefused {
+                    cause: ExprCause::NoMemory,
+                    left,
+                    right: Some(right),
+                });
+            }
+        };
+        match boxed(alloc, right) {
+            Ok(right) => Ok(Expr {
+                nodes,
+                depth,
+                root: Node::Binary(op, left, right),
             }),
-            Err(refused) => Err(ExprRefused {
+            Err(right) => Err(ExprRefused {
                 cause: ExprCause::NoMemory,
                 left: Expr {
-                    nodes,
-                    depth,
-                    root: refused.value,
+                    nodes: left_nodes,
+                    depth: left_depth,
+                    root: Box::into_inner(left),
                 },
-                right: None,
+                right: Some(right),
             }),
         }
+    }
+
+    /// The operand joined with an integer on its right. Refused as `cast`.
+    pub fn scalar_right(
+        alloc: Global,
+        operand: Expr,
+        op: ScalarOp,
+        value: i128,
+    ) -> Result<Expr, ExprRefused>
+        ensures tree { IfOk result (λ e. e ≡ ScalarRight operand op value) }
+        ensures fits { OnOk result (is_within_limits (ScalarRight operand op value) ≡ true) }
+        ensures refused { IfErr result (λ r.
+            IsRefusedFor (node_count operand + 1) (depth_of operand + 1) r.cause) }
+        ensures back { IfErr result (λ r. (r.left ≡ operand) × (r.right ≡ None)) }
+    {
+        unary(alloc, UnaryOp::ScalarRight(op, value), operand)
+    }
+
+    /// An integer joined with the operand on its right. Refused as `cast`.
+    pub fn scalar_left(
+        alloc: Global,
+        value: i128,
+        op: BinOp,
+        operand: Expr,
+    ) -> Result<Expr, ExprRefused>
+        ensures tree { IfOk result (λ e. e ≡ ScalarLeft value op operand) }
+        ensures fits { OnOk result (is_within_limits (ScalarLeft value op operand) ≡ true) }
+        ensures refused { IfErr result (λ r.
+            IsRefusedFor (node_count operand + 1) (depth_of operand + 1) r.cause) }
+        ensures back { IfErr result (λ r. (r.left ≡ operand) × (r.right ≡ None)) }
+    {
+        unary(alloc, UnaryOp::ScalarLeft(value, op), operand)
+    }
+
+    /// The operand in another unit, wrapped where a value has no room there. Refused as `cast`.
+    pub fn unit(alloc: Global, operand: Expr, unit: TimeUnit) -> Result<Expr, ExprRefused>
+        ensures tree { IfOk result (λ e. e ≡ InUnit operand unit) }
+        ensures fits { OnOk result (is_within_limits (InUnit operand unit) ≡ true) }
+        ensures refused { IfErr result (λ r.
+            IsRefusedFor (node_count operand + 1) (depth_of operand + 1) r.cause) }
+        ensures back { IfErr result (λ r. (r.left ≡ operand) × (r.right ≡ None)) }
+    {
+        unary(alloc, UnaryOp::InUnit(unit), operand)
+    }
+
+    /// The operand with each slot so many rows further down, up where negative. Refused as `cast`.
+    pub fn shift(alloc: Global, operand: Expr, periods: i64) -> Result<Expr, ExprRefused>
+        ensures tree { IfOk result (λ e. e ≡ Shift operand periods) }
+        ensures fits { OnOk result (is_within_limits (Shift operand periods) ≡ true) }
+        ensures refused { IfErr result (λ r.
+            IsRefusedFor (node_count operand + 1) (depth_of operand + 1) r.cause) }
+        ensures back { IfErr result (λ r. (r.left ≡ operand) × (r.right ≡ None)) }
+    {
+        unary(alloc, UnaryOp::Shift(periods), operand)
     }
 
     /// How many nodes there are, from 1 to 1,048,576.
@@ -132,5 +227,53 @@ fn refusal(nodes: u32, depth: u32) -> Option<ExprCause>
         Some(ExprCause::ExprTooDeep { depth })
     } else {
         None
+    }
+}
+
+// An operation over an operand.
+fn unary(alloc: Global, operation: UnaryOp, operand: Expr) -> Result<Expr, ExprRefused>
+    requires built { is_built_operation operation ≡ true }
+    ensures tree { IfOk result (λ e. e ≡ over operation operand) }
+    ensures fits { OnOk result (is_within_limits (over operation operand) ≡ true) }
+    ensures refused { IfErr result (λ r.
+        IsRefusedFor (node_count operand + 1) (depth_of operand + 1) r.cause) }
+    ensures back { IfErr result (λ r. (r.left ≡ operand) × (r.right ≡ None)) }
+{
+    let nodes = operand.nodes + 1;
+    let depth = operand.depth + 1;
+    if let Some(cause) = refusal(nodes, depth) {
+        return Err(ExprRefused {
+            cause,
+            left: operand,
+            right: None,
+        });
+    }
+    match boxed(alloc, operand) {
+        Ok(root) => Ok(Expr {
+            nodes,
+            depth,
+            root: Node::Unary(operation, root),
+        }),
+        Err(operand) => Err(ExprRefused {
+            cause: ExprCause::NoMemory,
+            left: operand,
+            right: None,
+        }),
+    }
+}
+
+// The root in a box; want of memory hands the expression back.
+fn boxed(alloc: Global, expr: Expr) -> Result<Box<Node>, Expr>
+    ensures root { IfOk result (λ root. node_tree root.value ≡ expr) }
+    ensures back { IfErr result (λ e. e ≡ expr) }
+{
+    let Expr { nodes, depth, root } = expr;
+    match Box::new(alloc, root) {
+        Ok(root) => Ok(root),
+        Err(refused) => Err(Expr {
+            nodes,
+            depth,
+            root: refused.value,
+        }),
     }
 }

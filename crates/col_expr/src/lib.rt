@@ -7,11 +7,13 @@ mod expr;
 mod inputs;
 mod laws;
 mod node;
+mod operations;
 mod steps;
 #[cfg(test)]
 mod tests;
 
 pub use col_series::{CastOptions, DataType, Series, TimeUnit, TimeZone};
+pub use col_types::{BinOp, ScalarOp};
 pub use error::{EvalError, ExprCause, ExprRefused};
 pub use evaluation::evaluate;
 pub use expr::Expr;

@@ -1,5 +1,5 @@
 // That calls succeed, what they answer, and how deep they go.
-ghost use Rattle.std.specs.Prelude.{◌≡◌, ◌<◌, true};
+ghost use Rattle.std.specs.Prelude.{◌≡◌, ◌<◌, true, length, IfOk};
 ghost use Rattle.col_model.specs.Column.{is_built_type};
 ghost use Rattle.col_expr.specs.Built.{is_built_cast};
 
@@ -17,9 +17,17 @@ fn moments(unit: TimeUnit) -> DataType
     DataType::Datetime(unit, None)
 }
 
-fn one_input(alloc: Global, unit: TimeUnit, slots: &[Option<i128>]) -> Result<Inputs, Fail> {
+fn column(alloc: Global, dtype: DataType, slots: &[Option<i128>]) -> Result<Series, Fail>
+    requires built { is_built_type dtype ≡ true }
+{
     let name = PlSmallStr::from_str(alloc, "a")?;
-    let column = Series::from_slots(alloc, name, &moments(unit), slots)?;
+    Ok(Series::from_slots(alloc, name, &dtype, slots)?)
+}
+
+fn one_input(alloc: Global, unit: TimeUnit, slots: &[Option<i128>]) -> Result<Inputs, Fail>
+    ensures one { IfOk result (λ inputs. length inputs ≡ 1) }
+{
+    let column = column(alloc, moments(unit), slots)?;
     let mut inputs = Inputs::new(alloc);
     match inputs.push(column) {
         Ok(()) => Ok(inputs),
@@ -27,13 +35,31 @@ fn one_input(alloc: Global, unit: TimeUnit, slots: &[Option<i128>]) -> Result<In
     }
 }
 
-fn cast(alloc: Global, operand: Expr, dtype: DataType, options: CastOptions) -> Result<Expr, Fail>
-    requires built { is_built_cast dtype ≡ true }
-{
-    match Expr::cast(alloc, operand, dtype, options) {
+// Moments, and lengths of time in the same unit.
+fn two_inputs(
+    alloc: Global,
+    moments: &[Option<i128>],
+    lengths: &[Option<i128>],
+) -> Result<Inputs, Fail> {
+    let mut inputs = one_input(alloc, TimeUnit::Milliseconds, moments)?;
+    let column = column(alloc, DataType::Duration(TimeUnit::Milliseconds), lengths)?;
+    match inputs.push(column) {
+        Ok(()) => Ok(inputs),
+        Err(_) => Err(Fail::new("no memory")),
+    }
+}
+
+fn built(answer: Result<Expr, ExprRefused>) -> Result<Expr, Fail> {
+    match answer {
         Ok(expr) => Ok(expr),
         Err(refused) => Err(Fail::from(refused.cause)),
     }
+}
+
+fn cast(alloc: Global, operand: Expr, dtype: DataType, options: CastOptions) -> Result<Expr, Fail>
+    requires built { is_built_cast dtype ≡ true }
+{
+    built(Expr::cast(alloc, operand, dtype, options))
 }
 
 fn counted<L: Ledger>(
@@ -56,9 +82,39 @@ fn answer(alloc: Global, expr: &Expr, inputs: &Inputs) -> Result<Series, EvalErr
 
 fn tick(column: &Series, row: usize) -> Result<Option<i64>, Fail> {
     Ok(match column.get(row)? {
-        AnyValue::Datetime(tick, _, _) => Some(tick),
+        AnyValue::Datetime(tick, _, _) | AnyValue::Duration(tick, _) => Some(tick),
         _ => None,
     })
+}
+
+fn shows(
+    alloc: Global,
+    inputs: &Inputs,
+    expr: Result<Expr, ExprRefused>,
+    wanted: &[Option<i64>],
+) -> Result<(), Fail> {
+    let expr = built(expr)?;
+    let column = answer(alloc, &expr, inputs)?;
+    for (row, slot) in wanted.iter().enumerate() {
+        if tick(&column, row)? != *slot {
+            return Err(Fail::new("another slot"));
+        }
+    }
+    Ok(())
+}
+
+fn refuses(
+    alloc: Global,
+    inputs: &Inputs,
+    expr: Result<Expr, ExprRefused>,
+    wanted: EvalError,
+) -> Result<(), Fail> {
+    let expr = built(expr)?;
+    match answer(alloc, &expr, inputs) {
+        Ok(_) => Err(Fail::new("not refused")),
+        Err(error) if error == wanted => Ok(()),
+        Err(error) => Err(Fail::from(error)),
+    }
 }
 
 #[test]
@@ -144,6 +200,75 @@ fn the_deepest_expression_is_evaluated(rt: HostRuntime) -> Result<(), Fail> {
             assert!(rt; refused.left.depth() == 512 && refused.left.nodes() == 512);
             let column = answer(alloc, &refused.left, &inputs)?;
             assert_eq!(rt; tick(&column, 0)?, Some(7));
+            Ok(())
+        }
+    }
+}
+
+#[test]
+fn each_node_has_its_column(rt: HostRuntime) -> Result<(), Fail> {
+    let alloc = rt.alloc();
+    let lengths = [Some(2), Some(3), Some(4)];
+    let inputs = two_inputs(alloc, &[Some(5), None, Some(-7)], &lengths)?;
+    let sum = Expr::binary(alloc, BinOp::Add, Expr::input(0), Expr::input(1));
+    shows(alloc, &inputs, sum, &[Some(7), None, Some(-3)])?;
+    let difference = Expr::binary(alloc, BinOp::Sub, Expr::input(0), Expr::input(1));
+    shows(alloc, &inputs, difference, &[Some(3), None, Some(-11)])?;
+    let half = Expr::scalar_right(alloc, Expr::input(0), ScalarOp::TruncDiv, 2);
+    shows(alloc, &inputs, half, &[Some(2), None, Some(-3)])?;
+    let rest = Expr::scalar_left(alloc, 10, BinOp::Sub, Expr::input(0));
+    shows(alloc, &inputs, rest, &[Some(5), None, Some(17)])?;
+    let finer = Expr::unit(alloc, Expr::input(0), TimeUnit::Microseconds);
+    shows(alloc, &inputs, finer, &[Some(5_000), None, Some(-7_000)])?;
+    let down = Expr::shift(alloc, Expr::input(0), 1);
+    shows(alloc, &inputs, down, &[None, Some(5), None])
+}
+
+#[test]
+fn the_tests_of_a_node_come_in_order(rt: HostRuntime) -> Result<(), Fail> {
+    let alloc = rt.alloc();
+    let inputs = two_inputs(alloc, &[Some(5), None, Some(-7)], &[Some(2), Some(3)])?;
+    let too_large = Expr::scalar_right(alloc, Expr::input(0), ScalarOp::Add, 1 << 63);
+    refuses(alloc, &inputs, too_large, EvalError::Scalar { node: 1 })?;
+    let apart = Expr::binary(alloc, BinOp::Mul, Expr::input(0), Expr::input(1));
+    let lengths = EvalError::Lengths {
+        node: 2,
+        left: 3,
+        right: 2,
+    };
+    refuses(alloc, &inputs, apart, lengths)?;
+    let unlisted = Expr::binary(alloc, BinOp::Mul, Expr::input(0), Expr::input(0));
+    refuses(alloc, &inputs, unlisted, EvalError::Unsupported { node: 2 })?;
+    let both = Expr::binary(alloc, BinOp::Mul, Expr::input(7), Expr::input(8));
+    let left = EvalError::NoColumn {
+        node: 0,
+        index: 7,
+        count: 2,
+    };
+    refuses(alloc, &inputs, both, left)
+}
+
+// The full tree of so many levels.
+fn full(alloc: Global, levels: u32) -> Result<Expr, Fail> {
+    if levels <= 1 {
+        return Ok(Expr::input(0));
+    }
+    let left = full(alloc, levels - 1)?;
+    let right = full(alloc, levels - 1)?;
+    built(Expr::binary(alloc, BinOp::Add, left, right))
+}
+
+#[test]
+fn the_largest_expression_is_built(rt: HostRuntime) -> Result<(), Fail> {
+    let alloc = rt.alloc();
+    let full = full(alloc, 20)?;
+    assert_eq!(rt; full.nodes(), 1_048_575);
+    let largest = built(Expr::shift(alloc, full, 1))?;
+    match Expr::shift(alloc, largest, 1) {
+        Ok(_) => Err(Fail::new("not refused")),
+        Err(refused) => {
+            assert!(rt; refused.cause == ExprCause::ExprTooLarge { nodes: 1_048_577 });
+            assert!(rt; refused.left.nodes() == 1_048_576 && refused.left.depth() == 21);
             Ok(())
         }
     }

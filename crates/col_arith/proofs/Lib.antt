@@ -1,0 +1,4 @@
+pub mod TickLemmas
+pub mod RowLemmas
+pub mod ColumnLemmas
+pub mod CoercionLemmas

@@ -1,0 +1,13 @@
+use Rattle.std.specs.Prelude.{◌≡◌, ◌++◌, true, map, drop}
+use Rattle.std.specs.List.{list_all}
+use Rattle.std.specs.Option.{option_and_then}
+use Rattle.col_arith.specs.OperatorRow.{is_tick_in}
+use Rattle.col_arith.specs.ScalarForm.{values_in, scalar_tick, scalar_ticks}
+use Rattle.col_arith.proofs.scalars.scalar_ticks.Given as goal
+
+abbrev pub invariant-loop-slot : goal.invariant-loop-slot
+invariant-loop-slot l = record {
+  ticks : l.joined.items ++ scalar_ticks l.ticks l.form l.k (drop l.slot-index l.slots) ≡ scalar_ticks l.ticks l.form l.k l.slots;
+  fit : list_all (is_tick_in (values_in l.ticks)) l.joined.items ≡ true;
+  left : list_all (is_tick_in (values_in l.ticks)) (drop l.slot-index l.slots) ≡ true;
+}

@@ -1,0 +1,4 @@
+pub mod OperatorRow
+pub mod Rows
+pub mod ScalarForm
+pub mod Coercion

@@ -1,0 +1,16 @@
+//! Arithmetic of temporal columns: operators, scalar forms and coercion.
+#![tactic(auto)]
+
+mod arith;
+mod coercion;
+mod columns;
+mod operators;
+mod rows;
+mod scalar;
+mod scalars;
+mod ticks;
+
+pub use arith::SeriesArith;
+pub use coercion::{coerce_lhs_rhs, coerce_lhs_rhs_owned};
+pub use columns::{binary, uncoerced_binary};
+pub use scalar::{scalar_left, scalar_right};
