@@ -6,9 +6,11 @@ use Rattle.std.specs.Fmt.{digits}
 use Rattle.col_types.specs.declared.time_unit.TimeUnit.TheVariants.{Nanoseconds, Microseconds, Milliseconds}
 use Rattle.col_types.specs.declared.data_type.DataType.{Binary, Date, Datetime, Duration, Time}
 use Rattle.col_types.specs.declared.cast_options.CastOptions.TheVariants.{NonStrict, Strict, Overflowing}
+use Rattle.col_types.specs.declared.operator.BinOp.TheVariants as ops
+use Rattle.col_types.specs.declared.operator.ScalarOp.TheVariants as scalar_ops
 use Rattle.col_types.specs.declared.is_sorted.IsSorted.TheVariants.{Not}
 use Rattle.col_model.specs.Value.{whole}
-use Rattle.col_expr.specs.Tree.{Input, Cast, CastTo}
+use Rattle.col_expr.specs.Tree.{Input, Cast, Binary, InUnit, Shift, CastTo, Apply, ApplyRight, ApplyLeft, ToUnit, ShiftBy}
 use Rattle.col_expr.specs.declared.error.EvalError.TheVariants as refusals
 use Rattle.col_text.specs.Numbers.{integer_of, number_of}
 use Rattle.col_text.specs.Types.{column_dtype, target_named}
@@ -78,18 +80,35 @@ chunks : slots_of (codes "|" ∷ codes "1" ∷ codes "|" ∷ codes "|" ∷ codes
     ≡ Some (Some (pos 1) ∷ None ∷ [])
 chunks = refl
 
--- options of casts
+-- each kind of token
 tokens : (symbol_of [] (codes "cast!:date") ≡ Some (CastTo Date Strict))
     × (symbol_of [] (codes "cast~:time") ≡ Some (CastTo Time Overflowing))
-    × (symbol_of [] (codes "cast:datetime[s]") ≡ None)
-tokens = (refl, refl, refl)
+    × (symbol_of [] (codes "%") ≡ Some (Apply ops.Rem))
+    × (symbol_of [] (codes "tdiv#-7") ≡ Some (ApplyRight scalar_ops.TruncDiv (negsuc 6)))
+    × (symbol_of [] (codes "+3#-") ≡ Some (ApplyLeft (pos 3) ops.Sub))
+    × (symbol_of [] (codes "unit:ms") ≡ Some (ToUnit Milliseconds))
+    × (symbol_of [] (codes "shift:-9223372036854775808")
+    ≡ Some (ShiftBy (negsuc 9223372036854775807)))
+tokens = (refl, refl, refl, refl, refl, refl, refl)
 
--- a cast takes the tree before it, and one tree is left
+-- tokens that are no node
+bad_tokens : (symbol_of [] (codes "3#tdiv") ≡ None) × (symbol_of [] (codes "3-") ≡ None)
+    × (symbol_of [] (codes "+#") ≡ None) × (symbol_of [] (codes "1#+#1") ≡ None)
+    × (symbol_of [] (codes "unit:s") ≡ None) × (symbol_of [] (codes "cast:datetime[s]") ≡ None)
+    × (symbol_of [] (codes "shift:9223372036854775808") ≡ None)
+bad_tokens = (refl, refl, refl, refl, refl, refl, refl)
+
+-- a node takes the trees before it, the right operand last, and one tree is left
 expressions : (expression_line [] (codes "$0" ∷ codes "cast:duration[ns]" ∷ [])
     ≡ Some (Cast (Input 0) (Duration Nanoseconds) NonStrict))
-    × (expression_line [] (codes "cast:duration[ns]" ∷ codes "$0" ∷ []) ≡ None)
+    × (expression_line [] (codes "$7" ∷ codes "$8" ∷ codes "-" ∷ [])
+    ≡ Some (Binary ops.Sub (Input 7) (Input 8)))
+    × (expression_line [] (codes "$7" ∷ codes "shift:1" ∷ codes "unit:ns" ∷ [])
+    ≡ Some (InUnit (Shift (Input 7) (pos 1)) Nanoseconds))
+    × (expression_line [] (codes "3#-" ∷ codes "$0" ∷ []) ≡ None)
+    × (expression_line [] (codes "$0" ∷ codes "+" ∷ []) ≡ None)
     × (expression_line [] (codes "$0" ∷ codes "$1" ∷ []) ≡ None) × (expression_line [] [] ≡ None)
-expressions = (refl, refl, refl, refl)
+expressions = (refl, refl, refl, refl, refl, refl, refl)
 
 -- a zone serves the lines behind it, also twice, and none before it
 zones : (script_of (codes "zone a/b\nzone a/b\ncol a datetime[ns,a/b]\nexpr $0")

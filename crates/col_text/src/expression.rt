@@ -1,6 +1,6 @@
 // The line of the expression.
 ghost use Rattle.std.specs.Prelude.{◌≡◌, true};
-ghost use Rattle.col_expr.specs.Tree.{is_within_limits};
+ghost use Rattle.col_expr.specs.Tree.{Apply, Binary, TakeInput, is_within_limits};
 ghost use Rattle.col_expr.specs.Postfix.{stack_with, only_tree};
 ghost use Rattle.col_token.specs.Tokens.{words_in};
 ghost use Rattle.col_text.specs.Expression.{expression_line, stack_after_token, within_limits};
@@ -16,7 +16,7 @@ ghost use Rattle.col_text.specs.Reading.{Reads, Becomes};
 use crate::line_error::LineError;
 use crate::node::{Node, Operation, node_of};
 use crate::stack::Stack;
-use col_expr::Expr;
+use col_expr::{BinOp, Expr};
 use col_token::first_token;
 use col_types::ZoneNames;
 use std::alloc::Global;
@@ -28,7 +28,17 @@ fn over(alloc: Global, operation: Operation, operand: Expr) -> Result<Expr, Line
 {
     match operation {
         Operation::Cast(dtype, options) => Ok(Expr::cast(alloc, operand, dtype, options)?),
+        Operation::ScalarRight(op, value) => Ok(Expr::scalar_right(alloc, operand, op, value)?),
+        Operation::ScalarLeft(value, op) => Ok(Expr::scalar_left(alloc, value, op, operand)?),
+        Operation::Unit(unit) => Ok(Expr::unit(alloc, operand, unit)?),
+        Operation::Shift(periods) => Ok(Expr::shift(alloc, operand, periods)?),
     }
+}
+
+fn joined(alloc: Global, op: BinOp, left: Expr, right: Expr) -> Result<Expr, LineError>
+    ensures tree { Reads result (within_limits (Binary op left right)) }
+{
+    Ok(Expr::binary(alloc, op, left, right)?)
 }
 
 fn push_unary(alloc: Global, stack: &mut Stack, operation: Operation) -> Result<(), LineError>
@@ -42,6 +52,20 @@ fn push_unary(alloc: Global, stack: &mut Stack, operation: Operation) -> Result<
     }
 }
 
+/// The right operand lies above the left one.
+fn push_binary(alloc: Global, stack: &mut Stack, op: BinOp) -> Result<(), LineError>
+    ensures stack { Becomes result stack.new
+        (stack_with is_within_limits (Apply op) stack.old) }
+{
+    let Some(right) = stack.pop() else {
+        return Err(LineError::Bad);
+    };
+    match stack.pop() {
+        Some(left) => Ok(stack.push(joined(alloc, op, left, right)?)?),
+        None => Err(LineError::Bad),
+    }
+}
+
 fn push_node(alloc: Global, stack: &mut Stack, node: Node) -> Result<(), LineError>
     requires built { is_built_node node ≡ true }
     ensures stack { Becomes result stack.new
@@ -49,6 +73,7 @@ fn push_node(alloc: Global, stack: &mut Stack, node: Node) -> Result<(), LineErr
 {
     match node {
         Node::Input(index) => Ok(stack.push(Expr::input(index))?),
+        Node::Binary(op) => push_binary(alloc, stack, op),
         Node::Unary(operation) => push_unary(alloc, stack, operation),
     }
 }

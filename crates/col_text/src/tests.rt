@@ -83,6 +83,16 @@ fn tokens_are_read(rt: HostRuntime) -> Result<(), Fail> {
         ("expr $0 cast:datetime[us,utc]", ""),
         ("expr $0 cast:datetime[us,nowhere]", "bad line 1\n"),
         ("expr $0 cast?:date", "bad line 1\n"),
+        ("expr $0 $1 + $2 - $3 * $4 / $5 %", ""),
+        ("expr $0 +", "bad line 1\n"),
+        ("expr $0 +#1 -#+1 *#-1 /#007 %#0 tdiv#170141183460469231731687303715884105727", ""),
+        ("expr $0 tdiv#170141183460469231731687303715884105728", "bad line 1\n"),
+        ("expr $0 1#+ +1#- -1#* 007#/ 0#%", ""),
+        ("expr $0 1#tdiv", "bad line 1\n"),
+        ("expr 3#-  $0", "bad line 1\n"),
+        ("expr $0 unit:ns unit:us unit:ms shift:-9223372036854775808", ""),
+        ("expr $0 unit:s", "bad line 1\n"),
+        ("expr $0 shift:9223372036854775808", "bad line 1\n"),
     ] {
         let text = first_column(rt.alloc(), given)?;
         assert_eq!(rt; text.as_slice(), wanted.as_bytes(), "at {given}");
