@@ -164,6 +164,7 @@ add_then_subtract moments lengths u z paired =
     let filled : DataType → List (Option Value) → Result Column PolarsError = λ dtype slots. Ok (record { name = moments.name; dtype = dtype; slots = slots; flag = Not }) in
     ap (λ (r : Result Column PolarsError). and_then r (λ later. binary_of Sub later lengths)) up ∙ down
     ∙ ap (filled difference.dtype) slots ∙ ap (λ (d : DataType). filled d (slots_where_valid moments lengths)) (same_type u z moments.dtype paired.left_is)
+
 pub subtract_then_add : (dates others : Column) → SubtractThenAdd dates others
 unfolding days_apart day_after
 subtract_then_add dates others paired =

@@ -9,6 +9,8 @@ mod operators;
 mod rows;
 mod scalar;
 mod scalars;
+#[cfg(test)]
+mod tests;
 mod ticks;
 
 pub use arith::SeriesArith;
