@@ -1,9 +1,6 @@
 -- What a node answers that joins two columns.
-use Rattle.std.proofs.Common.{◌≡◌, ℕ, ◌+◌, ◌<◌, List, length, Option, Some, None, refl, sym, ap, ◌∙◌, subst, arith, Result, Ok, Err, IfOk, OnOk}
-use Rattle.std.specs.Prelude.{unwrap_or}
-use Rattle.col_types.specs.declared.data_type.DataType.{DataType}
+use Rattle.std.proofs.Common.{◌≡◌, ℕ, ◌+◌, ◌<◌, List, length, Option, Some, None, refl, sym, ap, ◌∙◌, arith, Result, Err, IfOk, OnOk}
 use Rattle.col_types.specs.declared.operator.BinOp.{BinOp}
-use Rattle.col_model.specs.Value.{Value}
 use Rattle.col_model.specs.Column.{Column}
 use Rattle.col_model.specs.Broadcast.{column_slots, broadcast_length, operand_row}
 use Rattle.col_model.specs.OperatorTable.{OperatorRule, operator_rule}
@@ -11,7 +8,7 @@ use Rattle.col_model.specs.OperatorCalls.{slots_by, operand_slot, binary_column,
 use Rattle.col_expr.specs.declared.error.EvalError.{EvalError}
 use Rattle.col_expr.specs.Tree.{Tree, Binary, node_count}
 use Rattle.col_expr.specs.Meaning.{dtype_of, rows_of, row_count, slot_at, step_count, rule_dtype, rule_slots, operator_rule_for, broadcast_length_for}
-use Rattle.col_expr.specs.Refusal.{binary_refusal_at, refusal_at, or_else, first_refusal, Gives}
+use Rattle.col_expr.specs.Refusal.{binary_refusal_at, refusal_at, first_refusal, Gives}
 use Rattle.col_expr.specs.Found.{IsColumnOf, IsFine, IsFound, numbered}
 use Rattle.col_expr.proofs.Slots.{length-column_slots, column_slots-same, operand_row-left, operand_row-right}
 use Rattle.col_expr.proofs.NodeLemmas.{IsDueBy, found_due, row_count-is, slot_in-is, steps_above, Unless-map}

@@ -1,15 +1,12 @@
 -- What a node answers that does one operation with its operand's column.
-use Rattle.std.proofs.Common.{◌≡◌, ℕ, ◌+◌, ◌<◌, ℤ, pos, negsuc, ◌-ℤ◌, List, length, map, Option, Some, None, refl, sym, ap, ◌∙◌, subst, arith, Result, Ok, Err, IfOk, IfSome, OnOk, Bool, true, false, ◌&&◌, not}
-use Rattle.std.specs.Prelude.{if◌then◌else◌, unwrap_or}
+use Rattle.std.proofs.Common.{◌≡◌, ℕ, ◌+◌, ◌<◌, ℤ, pos, negsuc, ◌-ℤ◌, List, length, map, Option, Some, None, refl, sym, ap, ◌∙◌, subst, arith, Result, Err, IfOk, IfSome, OnOk, Bool, true, false, ◌&&◌, not}
+use Rattle.std.specs.Prelude.{if◌then◌else◌}
 use Rattle.std.specs.Option.{option_map, option_and_then}
 use Rattle.std.proofs.lemmas.Bool.Decides.{nat_tests}
 use Rattle.std.proofs.lemmas.List.{length-map}
 use Rattle.col_types.specs.DataType.{kind_of, holds_integers, is_bad_target, is_expression_target}
 use Rattle.col_types.specs.declared.data_type.DataType.{DataType}
 use Rattle.col_types.specs.declared.cast_options.CastOptions.{CastOptions}
-use Rattle.col_types.specs.declared.time_unit.TimeUnit.{TimeUnit}
-use Rattle.col_types.specs.declared.operator.BinOp.{BinOp}
-use Rattle.col_types.specs.declared.operator.ScalarOp.{ScalarOp}
 use Rattle.col_types.specs.declared.operator.OpName.{OpName}
 use Rattle.col_types.specs.declared.is_sorted.IsSorted.TheVariants.{Not}
 use Rattle.col_types.specs.declared.error.PolarsError.{PolarsError}
@@ -29,9 +26,9 @@ use Rattle.col_expr.specs.declared.node.UnaryOp.TheVariants as operations
 use Rattle.col_expr.specs.Tree.{Tree, Cast, ScalarRight, ScalarLeft, InUnit, Shift, node_count, depth_of}
 use Rattle.col_expr.specs.Node.{over}
 use Rattle.col_expr.specs.Built.{is_built, is_built_operation}
-use Rattle.col_expr.specs.Meaning.{name_of, dtype_of, rows_of, row_count, slot_at, flag_of, step_count, cast_dtype, cast_rule_for, rule_dtype, rule_slot, scalar_slot, scalar_right_rule_for, scalar_left_rule_for, is_scalar_for, unit_change_rule_for}
+use Rattle.col_expr.specs.Meaning.{name_of, dtype_of, rows_of, row_count, slot_at, flag_of, step_count, cast_dtype, cast_rule_for, rule_dtype, rule_slot, scalar_slot, scalar_right_rule_for, scalar_left_rule_for, unit_change_rule_for}
 use Rattle.col_expr.specs.Refusal.{at_node, cast_refusal_at, scalar_refusal_at, unsupported_at, refusal_at, or_else, first_refusal, Gives}
-use Rattle.col_expr.specs.Found.{IsColumnOf, IsFine, IsFineBy, IsFound, numbered, unary_at}
+use Rattle.col_expr.specs.Found.{IsColumnOf, IsFine, IsFound, numbered, unary_at}
 use Rattle.col_expr.proofs.Slots.{length-column_slots, column_slots-same, map-column_slots}
 use Rattle.col_expr.proofs.NodeLemmas.{IsDueBy, found_due, due_by, row_count-is, slot_in-is, steps_above, Unless-map}
 

@@ -102,30 +102,15 @@ impl Expr {
                 right: Some(right),
             });
         }
-        let (left_nodes, left_depth) = (left.nodes, left.depth);
-        let left = match boxed(alloc, left) {
-            Ok(root) => root,
-            Err(left) => {
-                return Err(ExprRefused {
-                    cause: ExprCause::NoMemory,
-                    left,
-                    right: Some(right),
-                });
-            }
-        };
-        match boxed(alloc, right) {
-            Ok(right) => Ok(Expr {
+        match boxed_pair(alloc, left, right) {
+            Ok((left, right)) => Ok(Expr {
                 nodes,
                 depth,
                 root: Node::Binary(op, left, right),
             }),
-            Err(right) => Err(ExprRefused {
+            Err((left, right)) => Err(ExprRefused {
                 cause: ExprCause::NoMemory,
-                left: Expr {
-                    nodes: left_nodes,
-                    depth: left_depth,
-                    root: Box::into_inner(left),
-                },
+                left,
                 right: Some(right),
             }),
         }
@@ -275,5 +260,33 @@ fn boxed(alloc: Global, expr: Expr) -> Result<Box<Node>, Expr>
             depth,
             root: refused.value,
         }),
+    }
+}
+
+// Both roots in boxes; want of memory hands both expressions back.
+fn boxed_pair(
+    alloc: Global,
+    left: Expr,
+    right: Expr,
+) -> Result<(Box<Node>, Box<Node>), (Expr, Expr)>
+    ensures roots { IfOk result
+        (λ roots. (node_tree roots.0.value ≡ left) × (node_tree roots.1.value ≡ right)) }
+    ensures back { IfErr result (λ back. (back.0 ≡ left) × (back.1 ≡ right)) }
+{
+    let (nodes, depth) = (left.nodes, left.depth);
+    let left = match boxed(alloc, left) {
+        Ok(root) => root,
+        Err(left) => return Err((left, right)),
+    };
+    match boxed(alloc, right) {
+        Ok(right) => Ok((left, right)),
+        Err(right) => {
+            let left = Expr {
+                nodes,
+                depth,
+                root: Box::into_inner(left),
+            };
+            Err((left, right))
+        }
     }
 }
