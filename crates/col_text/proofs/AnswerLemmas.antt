@@ -1,14 +1,12 @@
 -- A row's text is that of its slot.
-use Rattle.std.proofs.Common.{◌≡◌, ◌<◌, ℕ, Bool, true, false, List, [], ◌∷◌, length, Option, Some, None, Result, Ok, Err, refl, ap, ◌∙◌, zero, suc}
-use Rattle.std.specs.Prelude.{◌&&◌, nat_lt, slice_index_or}
+use Rattle.std.proofs.Common.{◌≡◌, ◌<◌, ℕ, Bool, true, false, List, [], ◌∷◌, length, Option, Some, None, Result, Ok, refl, ap, ◌∙◌, zero, suc}
+use Rattle.std.specs.Prelude.{◌&&◌, slice_index_or}
 use Rattle.std.specs.List.{list_all}
 use Rattle.std.proofs.lemmas.Bool.{lt-ltb}
 use Rattle.col_types.specs.declared.data_type.DataType.{DataType, Date, Datetime, Duration, Time}
-use Rattle.col_types.specs.declared.error.PolarsError.{PolarsError}
 use Rattle.col_model.specs.Value.{Value, Flat, Nested, Whole, Bytes}
 use Rattle.col_model.specs.Column.{Column, IsValidColumn, is_built_type, is_slot_of}
-use Rattle.col_model.specs.ColumnCalls.{slot_of}
-use Rattle.col_series.specs.Seen.{Seen, seen_at, seen_by, slot_seen}
+use Rattle.col_series.specs.Seen.{Seen, seen_at, slot_seen}
 use Rattle.col_text.specs.Answer.{seen_text, slot_text}
 
 -- a slot's text is that of what it shows, in a column of a type that is built

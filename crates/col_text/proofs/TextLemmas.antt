@@ -48,12 +48,15 @@ is_zone_byte-ascii byte h =
     let small = nat_le 97 byte && nat_le byte 122 in
     let sign = list_any (nat_eq byte) (codes "/_+-:") in
     elim (either (digit || capital || small) sign h) [
-    | inr at ↦ is_sign-ascii byte at
-    | inl letter ↦ elim (either (digit || capital) small letter) [
-    | inr at ↦ up_to 97 122 byte (lit< tt) at
-    | inl other ↦ elim (either digit capital other) [
-    | inr at ↦ up_to 65 90 byte (lit< tt) at
-    | inl at ↦ up_to 48 57 byte (lit< tt) at ] ] ]
+      | inr at ↦ is_sign-ascii byte at
+      | inl letter ↦ elim (either (digit || capital) small letter) [
+        | inr at ↦ up_to 97 122 byte (lit< tt) at
+        | inl other ↦ elim (either digit capital other) [
+          | inr at ↦ up_to 65 90 byte (lit< tt) at
+          | inl at ↦ up_to 48 57 byte (lit< tt) at
+        ]
+      ]
+    ]
 
 -- visible bytes are text
 pub IsUtf8-graphic : (bytes : List ℕ) → list_all is_graphic bytes ≡ true → IsUtf8 bytes

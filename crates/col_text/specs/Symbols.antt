@@ -1,5 +1,5 @@
 -- The nodes that tokens spell.
-use Rattle.std.specs.Prelude.{ℕ, ◌+◌, ℤ, List, [], ◌∷◌, take, drop, nat_eq, find, Option, Some, None, option_and_then, option_map, codes}
+use Rattle.std.specs.Prelude.{ℕ, ◌+◌, ℤ, List, [], ◌∷◌, take, drop, nat_eq, find, Option, option_and_then, option_map, codes}
 use Rattle.std.specs.List.{position}
 use Rattle.std.specs.Int.{w64}
 use Rattle.std.specs.Str.{bytes_eq}

@@ -75,7 +75,9 @@ fn zone_front(unit: TimeUnit) -> &'static str
 fn zone_part(unit: TimeUnit, token: &[u8]) -> Option<&[u8]>
     ensures zone { option_map (λ part. part.now) result ≡ zone_part unit token.now }
 {
-    token.strip_prefix(zone_front(unit).as_bytes())?.strip_suffix(b"]")
+    token
+        .strip_prefix(zone_front(unit).as_bytes())?
+        .strip_suffix(b"]")
 }
 
 fn zone_named(names: &ZoneNames, part: &[u8]) -> Option<Option<TimeZone>>

@@ -35,7 +35,8 @@ impl From<ExprRefused> for LineError {
     fn from(refused: ExprRefused) -> Self {
         match refused.cause {
             ExprCause::NoMemory => LineError::NoMemory,
-            ExprCause::ExprTooLarge { nodes: _ } | ExprCause::ExprTooDeep { depth: _ } => LineError::Bad,
+            ExprCause::ExprTooLarge { nodes: _ } | ExprCause::ExprTooDeep { depth: _ } =>
+                LineError::Bad,
         }
     }
 }

@@ -37,12 +37,24 @@ fn scripts_are_read(rt: HostRuntime) -> Result<(), Fail> {
             "col a datetime[ms] 9223372036854775808\nexpr $0",
             "bad line 1\n",
         ),
-        ("col a date -2147483648 2147483647\nexpr $0", "a date 2\n-2147483648\n2147483647\n"),
+        (
+            "col a date -2147483648 2147483647\nexpr $0",
+            "a date 2\n-2147483648\n2147483647\n",
+        ),
         ("col a date 2147483648\nexpr $0", "bad line 1\n"),
-        ("col a time 86399999999999\nexpr $0", "a time 1\n86399999999999\n"),
+        (
+            "col a time 86399999999999\nexpr $0",
+            "a time 1\n86399999999999\n",
+        ),
         ("col a time 86400000000000\nexpr $0", "bad line 1\n"),
-        ("col a datetime[ms,UTC] 1\nexpr $0", "a datetime[ms,UTC] 1\n1\n"),
-        ("col a datetime[us,+01:00]\nexpr $0", "a datetime[us,Etc/GMT-1] 0\n"),
+        (
+            "col a datetime[ms,UTC] 1\nexpr $0",
+            "a datetime[ms,UTC] 1\n1\n",
+        ),
+        (
+            "col a datetime[us,+01:00]\nexpr $0",
+            "a datetime[us,Etc/GMT-1] 0\n",
+        ),
         ("col a datetime[us,]\nexpr $0", "a datetime[us] 0\n"),
         ("col a datetime[us,*]\nexpr $0", "bad line 1\n"),
         ("col a datetime[us,Europe/Oslo]\nexpr $0", "bad line 1\n"),
@@ -85,12 +97,21 @@ fn tokens_are_read(rt: HostRuntime) -> Result<(), Fail> {
         ("expr $0 cast?:date", "bad line 1\n"),
         ("expr $0 $1 + $2 - $3 * $4 / $5 %", ""),
         ("expr $0 +", "bad line 1\n"),
-        ("expr $0 +#1 -#+1 *#-1 /#007 %#0 tdiv#170141183460469231731687303715884105727", ""),
-        ("expr $0 tdiv#170141183460469231731687303715884105728", "bad line 1\n"),
+        (
+            "expr $0 +#1 -#+1 *#-1 /#007 %#0 tdiv#170141183460469231731687303715884105727",
+            "",
+        ),
+        (
+            "expr $0 tdiv#170141183460469231731687303715884105728",
+            "bad line 1\n",
+        ),
         ("expr $0 1#+ +1#- -1#* 007#/ 0#%", ""),
         ("expr $0 1#tdiv", "bad line 1\n"),
         ("expr 3#-  $0", "bad line 1\n"),
-        ("expr $0 unit:ns unit:us unit:ms shift:-9223372036854775808", ""),
+        (
+            "expr $0 unit:ns unit:us unit:ms shift:-9223372036854775808",
+            "",
+        ),
         ("expr $0 unit:s", "bad line 1\n"),
         ("expr $0 shift:9223372036854775808", "bad line 1\n"),
     ] {
