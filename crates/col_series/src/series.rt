@@ -176,8 +176,8 @@ impl Series {
         self.cast_with_options(alloc, dtype, CastOptions::Strict)
     }
 
-    /// The column in another type, by the options: `Strict` as `strict_cast`, `NonStrict` as `cast`,
-    /// and `Overflowing` as `cast`, but a day that the word of dates has no room for wraps.
+    /// The column in another type, by the options: `Strict` as `strict_cast`, `NonStrict` as
+    /// `cast`, and `Overflowing` as `cast`, but a day that the word of dates has no room for wraps.
     pub fn cast_with_options(
         &self,
         alloc: Global,
