@@ -9,14 +9,12 @@ use Rattle.col_series.proofs.TypeLemmas.{wider}
 use Rattle.std.proofs.Common.{refl, sym, ap, ◌∙◌}
 use Rattle.std.proofs.lemmas.List.{length-map}
 use Rattle.std.proofs.lemmas.List.FromFn.{length-map-range_with_len}
-use Rattle.col_types.specs.declared.data_type.DataType.{DataType}
 use Rattle.col_types.specs.declared.is_sorted.IsSorted.TheVariants.{Not}
 use Rattle.col_model.specs.Value.{Value, integer_slot, on_slot, on_slots}
 use Rattle.col_model.specs.Broadcast.{broadcast_length, operand_row, column_slots}
 use Rattle.col_model.specs.Column.{Column, physical_word}
 use Rattle.col_model.specs.Formula.{Formula, value_of, on_both}
 use Rattle.col_model.specs.OperatorCalls.{binary_column, ruled_column, slots_by, operand_slot}
-use Rattle.col_model.specs.OperatorTable.{OperatorRule}
 use Rattle.col_model.specs.Arithmetic.{Interval, Signed, fitting_value, is_within, word_values}
 use Rattle.col_model.specs.ScalarTable.{right_form, left_form}
 use Rattle.col_series.specs.Slots.{ticks_column}
@@ -28,7 +26,7 @@ use Rattle.col_arith.specs.declared.scalars.Ticks.TheVariants.{Days, Times, Wide
 use Rattle.col_arith.specs.ScalarForm.{FitsType, bounded_by, word_of, scalar_of, scalar_ticks}
 use Rattle.col_arith.specs.declared.operators.Rule.{Rule}
 use Rattle.col_arith.specs.declared.operators.OperatorRow.{OperatorRow}
-use Rattle.col_arith.specs.OperatorRow.{formula_of, operator_rule_of, met_tick}
+use Rattle.col_arith.specs.OperatorRow.{formula_of, operator_rule_of}
 use Rattle.col_arith.specs.Rows.{tick_for, met_row, met_ticks}
 
 -- ---- two columns

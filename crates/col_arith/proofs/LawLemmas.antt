@@ -1,5 +1,5 @@
 -- What an operator makes of ticks, the other one takes back.
-use Rattle.std.specs.Prelude.{◌≡◌, ◌+◌, ◌-◌, ◌*◌, ◌/◌, ◌%◌, ◌^◌, ◌<◌, ◌+ℤ◌, ◌-ℤ◌, ◌*ℤ◌, ℕ, zero, suc, ℤ, pos, negsuc, neg_ℤ, Bool, true, List, length, Option, Some, None, Result, Ok, FitsSigned}
+use Rattle.std.specs.Prelude.{◌≡◌, ◌+◌, ◌-◌, ◌*◌, ◌%◌, ◌<◌, ◌+ℤ◌, ◌-ℤ◌, ◌*ℤ◌, ℕ, zero, suc, ℤ, pos, negsuc, neg_ℤ, true, List, length, Option, Some, None, Result, Ok, FitsSigned}
 use Rattle.std.specs.Int.{w32, w64, int_wrapping_add, int_wrapping_sub, cast_signed, cast_unsigned}
 use Rattle.std.proofs.Common.{refl, ap, sym, ◌∙◌, cond, arith, mod-lt}
 use Rattle.std.proofs.lemmas.Int.{ints, to_z-of_z, of_z-to_z}

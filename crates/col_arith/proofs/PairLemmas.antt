@@ -1,13 +1,11 @@
 -- Two columns of one length under two rows of the operator table.
-use Rattle.std.specs.Prelude.{◌≡◌, ◌<◌, ◌+◌, ◌≤◌, ℕ, zero, suc, Bool, true, false, List, [], ◌∷◌, length, map, Option, Some, None, slice_index_or, nat_eq, Result, Ok}
+use Rattle.std.specs.Prelude.{◌≡◌, ◌<◌, ◌+◌, ◌≤◌, ℕ, zero, suc, Bool, true, false, List, [], ◌∷◌, length, map, Option, Some, None, slice_index_or, nat_eq, Ok}
 use Rattle.std.specs.List.{list_all, range_with_len}
-use Rattle.std.proofs.Common.{refl, ap, sym, ◌∙◌, cond, arith, zero-add}
+use Rattle.std.proofs.Common.{refl, ap, ◌∙◌, cond, arith, zero-add}
 use Rattle.std.proofs.lemmas.Bool.{and_parts, eq-eqb, eqb-true}
 use Rattle.std.proofs.lemmas.List.FromFn.{length-map-range_with_len, get_or-map-range_with_len}
 use Rattle.col_types.specs.declared.data_type.DataType.{DataType}
-use Rattle.col_types.specs.declared.is_sorted.IsSorted.TheVariants.{Not}
 use Rattle.col_types.specs.declared.operator.BinOp.{BinOp}
-use Rattle.col_types.specs.declared.error.PolarsError.{PolarsError}
 use Rattle.col_model.specs.Value.{Value}
 use Rattle.col_model.specs.Broadcast.{broadcast_length, operand_row, column_slots}
 use Rattle.col_model.specs.Column.{Column, is_slot_of}

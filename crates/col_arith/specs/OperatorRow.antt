@@ -1,5 +1,5 @@
 -- The rows of the operator table as the code keeps them.
-use Rattle.std.specs.Prelude.{◌≡◌, ◌<◌, ◌^◌, ℕ, ℤ, Bool, true, Option, Some, None}
+use Rattle.std.specs.Prelude.{◌≡◌, ◌<◌, ◌^◌, ℤ, Bool, true, Option, Some, None}
 use Rattle.std.specs.Int.{w32, w64}
 use Rattle.col_types.specs.TimeUnit.{ticks_per_day}
 use Rattle.col_types.specs.declared.time_unit.TimeUnit.TheVariants.{Milliseconds}

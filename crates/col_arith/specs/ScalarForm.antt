@@ -1,5 +1,5 @@
 -- The scalar forms as the code keeps them.
-use Rattle.std.specs.Prelude.{◌≡◌, ℕ, ℤ, List, map, Option, Some, None, Result}
+use Rattle.std.specs.Prelude.{◌≡◌, ℤ, List, map, Option, Some, Result}
 use Rattle.std.specs.Int.{w32, w64}
 use Rattle.std.specs.Option.{option_and_then}
 use Rattle.col_types.specs.declared.data_type.DataType.{DataType}

@@ -49,8 +49,8 @@ fn joined(
     left: (&DataType, i128),
     right: (&DataType, i128),
 ) -> PolarsResult<Option<i64>>
-    requires left { is_built_type left.entry.0.now ≡ true }
-    requires right { is_built_type right.entry.0.now ≡ true }
+    requires left { is_built_type left.0.now ≡ true }
+    requires right { is_built_type right.0.now ≡ true }
 {
     let left = column(alloc, left.0, &[Some(left.1)])?;
     let right = column(alloc, right.0, &[Some(right.1)])?;

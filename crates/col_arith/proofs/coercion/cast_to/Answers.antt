@@ -1,4 +1,3 @@
-use Rattle.std.proofs.Common.{sym}
 use Rattle.col_arith.proofs.CoercionLemmas.{cast_taken}
 use Rattle.col_arith.proofs.coercion.cast_to.Goals as goal
 

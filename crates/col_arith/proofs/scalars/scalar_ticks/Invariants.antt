@@ -1,8 +1,7 @@
-use Rattle.std.specs.Prelude.{◌≡◌, ◌++◌, true, map, drop}
+use Rattle.std.specs.Prelude.{◌≡◌, ◌++◌, true, drop}
 use Rattle.std.specs.List.{list_all}
-use Rattle.std.specs.Option.{option_and_then}
 use Rattle.col_arith.specs.OperatorRow.{is_tick_in}
-use Rattle.col_arith.specs.ScalarForm.{values_in, scalar_tick, scalar_ticks}
+use Rattle.col_arith.specs.ScalarForm.{values_in, scalar_ticks}
 use Rattle.col_arith.proofs.scalars.scalar_ticks.Given as goal
 
 abbrev pub invariant-loop-slot : goal.invariant-loop-slot
