@@ -14,7 +14,8 @@ use std::alloc::Global;
 
 /// Arithmetic of a column. An answer has the name of the column that the function is called on. A
 /// function of two columns is refused where neither the lengths are equal nor one of them is 1
-/// (`Lengths`), then where the types have no such operator (`Types`).
+/// (`Lengths`), then where the types have no such operator (`Types`); one of a column and an integer
+/// where the type has no integers (`Types`), then where its word doesn't hold this one (`Scalar`).
 pub trait SeriesArith: Drop {
     /// The column.
     ghost column: { Self → Column };
@@ -35,7 +36,8 @@ pub trait SeriesArith: Drop {
     fn try_div(&self, alloc: Global, rhs: &Series) -> PolarsResult<Series>
         ensures answer { Gives result (binary_of Div (column self.now) rhs.now) };
 
-    /// The rest that the quotient rounded down leaves, slot by slot; one row of either column stands for all.
+    /// The rest that the quotient rounded down leaves, slot by slot; one row of either column stands
+    /// for all.
     fn try_rem(&self, alloc: Global, rhs: &Series) -> PolarsResult<Series>
         ensures answer { Gives result (binary_of Rem (column self.now) rhs.now) };
 
@@ -71,53 +73,47 @@ pub trait SeriesArith: Drop {
     fn remainder(&self, alloc: Global, rhs: &Series) -> PolarsResult<Series>
         ensures answer { Gives result (uncoerced_of Rem (column self.now) rhs.now) };
 
-    /// The sum with an integer. Refused where the type has no integers (`Types`), then where its word doesn't
-    /// hold this one (`Scalar`).
+    /// The sum with an integer.
     fn add_scalar(&self, alloc: Global, rhs: i128) -> PolarsResult<Series>
         ensures answer { Gives result (scalar_right_of (column self.now) scalar_ops.Add rhs) };
 
-    /// The difference from an integer. Refused where the type has no integers (`Types`), then where its word doesn't
-    /// hold this one (`Scalar`).
+    /// The difference from an integer.
     fn sub_scalar(&self, alloc: Global, rhs: i128) -> PolarsResult<Series>
         ensures answer { Gives result (scalar_right_of (column self.now) scalar_ops.Sub rhs) };
 
-    /// The product with an integer. Refused where the type has no integers (`Types`), then where its word doesn't
-    /// hold this one (`Scalar`).
+    /// The product with an integer.
     fn mul_scalar(&self, alloc: Global, rhs: i128) -> PolarsResult<Series>
         ensures answer { Gives result (scalar_right_of (column self.now) scalar_ops.Mul rhs) };
 
-    /// The quotient by an integer, rounded down; null by 0. Refused where the type has no integers (`Types`), then where its word doesn't
-    /// hold this one (`Scalar`).
+    /// The quotient by an integer, rounded down; null by 0.
     fn div_scalar(&self, alloc: Global, rhs: i128) -> PolarsResult<Series>
         ensures answer { Gives result (scalar_right_of (column self.now) scalar_ops.Div rhs) };
 
-    /// The rest that the quotient by an integer, rounded down, leaves; null by 0. Refused where the type has no integers (`Types`), then where its word doesn't
-    /// hold this one (`Scalar`).
+    /// The rest that the quotient by an integer, rounded down, leaves; null by 0.
     fn rem_scalar(&self, alloc: Global, rhs: i128) -> PolarsResult<Series>
         ensures answer { Gives result (scalar_right_of (column self.now) scalar_ops.Rem rhs) };
 
-    /// The quotient by an integer, rounded towards zero; null by 0. Refused where the type has no integers (`Types`), then where its word doesn't
-    /// hold this one (`Scalar`).
+    /// The quotient by an integer, rounded towards zero; null by 0.
     fn wrapping_trunc_div_scalar(&self, alloc: Global, rhs: i128) -> PolarsResult<Series>
         ensures answer { Gives result (scalar_right_of (column self.now) scalar_ops.TruncDiv rhs) };
 
-    /// The sum of an integer and the column. Refused as `add_scalar`.
+    /// The sum of an integer and the column.
     fn lhs_add(&self, alloc: Global, lhs: i128) -> PolarsResult<Series>
         ensures answer { Gives result (scalar_left_of lhs Add (column self.now)) };
 
-    /// The difference of an integer and the column. Refused as `add_scalar`.
+    /// The difference of an integer and the column.
     fn lhs_sub(&self, alloc: Global, lhs: i128) -> PolarsResult<Series>
         ensures answer { Gives result (scalar_left_of lhs Sub (column self.now)) };
 
-    /// The product of an integer and the column. Refused as `add_scalar`.
+    /// The product of an integer and the column.
     fn lhs_mul(&self, alloc: Global, lhs: i128) -> PolarsResult<Series>
         ensures answer { Gives result (scalar_left_of lhs Mul (column self.now)) };
 
-    /// The quotient of an integer by the column, rounded down; null by 0. Refused as `add_scalar`.
+    /// The quotient of an integer by the column, rounded down; null by 0.
     fn lhs_div(&self, alloc: Global, lhs: i128) -> PolarsResult<Series>
         ensures answer { Gives result (scalar_left_of lhs Div (column self.now)) };
 
-    /// The rest that the quotient of an integer by the column leaves; null by 0. Refused as `add_scalar`.
+    /// The rest that the quotient of an integer by the column leaves; null by 0.
     fn lhs_rem(&self, alloc: Global, lhs: i128) -> PolarsResult<Series>
         ensures answer { Gives result (scalar_left_of lhs Rem (column self.now)) };
 }

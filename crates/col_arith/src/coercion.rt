@@ -9,8 +9,7 @@ ghost use Rattle.col_arith.specs.OperatorRow.{rule_of, FitsTypes};
 use crate::operators::{Rule, rule_for};
 use col_series::Series;
 use col_types::{
-    BinOp, CastOptions, DataType, OpName, PolarsError, PolarsResult, flat_supertype,
-    get_time_units,
+    BinOp, CastOptions, DataType, OpName, PolarsError, PolarsResult, flat_supertype, get_time_units,
 };
 use std::alloc::Global;
 

@@ -14,13 +14,19 @@ use col_series::Series;
 use col_types::{BinOp, PolarsError, PolarsResult};
 use std::alloc::Global;
 
-/// Two columns joined by an operator, as its table has it; one row of either stands for all. Refused
-/// where neither the lengths are equal nor one of them is 1 (`Lengths`), then where the table has no
+/// Two columns joined by an operator, slot by slot; one row of either stands for all. Refused where
+/// neither the lengths are equal nor one of them is 1 (`Lengths`), then where the table has no
 /// row for the types (`Types`). The answer has the left name.
 pub fn binary(alloc: Global, op: BinOp, left: &Series, right: &Series) -> PolarsResult<Series>
     ensures column { Gives result (binary_of op left.now right.now) }
 {
-    joined(alloc, op, left, right, rule_for(op, left.dtype(), right.dtype()))
+    joined(
+        alloc,
+        op,
+        left,
+        right,
+        rule_for(op, left.dtype(), right.dtype()),
+    )
 }
 
 /// As `binary`, but refused (`Types`) also where coercion would give an operand another type.
@@ -34,7 +40,13 @@ pub fn uncoerced_binary(
 {
     left.known();
     right.known();
-    joined(alloc, op, left, right, uncoerced_rule(op, left.dtype(), right.dtype()))
+    joined(
+        alloc,
+        op,
+        left,
+        right,
+        uncoerced_rule(op, left.dtype(), right.dtype()),
+    )
 }
 
 /// Two columns by a row of the table or none; lengths are tested before types.
@@ -71,8 +83,7 @@ fn by_rule(
     rows: usize,
     rule: Rule,
 ) -> PolarsResult<Series>
-    requires rows
-        { broadcast_length (length left.now.slots) (length right.now.slots) ≡ Some rows }
+    requires rows { broadcast_length (length left.now.slots) (length right.now.slots) ≡ Some rows }
     requires fits { FitsTypes left.now.dtype right.now.dtype rule }
     ensures column { Gives result
         (Ok (binary_column left.now right.now rows (operator_rule_of rule))) }

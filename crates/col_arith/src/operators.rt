@@ -133,26 +133,41 @@ fn sum_rule(left: &DataType, right: &DataType) -> Option<Rule>
 {
     match (left, right) {
         (DataType::Date, DataType::Duration(v)) => {
-            Some(Rule { dtype: DataType::Date, row: date_with(Meeting::Sum, *v) })
+            Some(Rule {
+                dtype: DataType::Date,
+                row: date_with(Meeting::Sum, *v),
+            })
         }
         (DataType::Duration(u), DataType::Date) => {
             let row = OperatorRow::LengthThenDate(ticks_per_day(*u));
-            Some(Rule { dtype: DataType::Date, row })
+            Some(Rule {
+                dtype: DataType::Date,
+                row,
+            })
         }
         (DataType::Datetime(u, zone), DataType::Duration(v)) => {
             let w = get_time_units(*u, *v);
             let row = sum(moment(*u, w), length(*v, w));
-            Some(Rule { dtype: DataType::Datetime(w, *zone), row })
+            Some(Rule {
+                dtype: DataType::Datetime(w, *zone),
+                row,
+            })
         }
         (DataType::Duration(u), DataType::Datetime(v, zone)) => {
             let w = get_time_units(*u, *v);
             let row = sum(length(*u, w), moment(*v, w));
-            Some(Rule { dtype: DataType::Datetime(w, *zone), row })
+            Some(Rule {
+                dtype: DataType::Datetime(w, *zone),
+                row,
+            })
         }
         (DataType::Duration(u), DataType::Duration(v)) => {
             let w = get_time_units(*u, *v);
             let row = sum(length(*u, w), length(*v, w));
-            Some(Rule { dtype: DataType::Duration(w), row })
+            Some(Rule {
+                dtype: DataType::Duration(w),
+                row,
+            })
         }
         _ => None,
     }
@@ -165,22 +180,37 @@ fn difference_rule(left: &DataType, right: &DataType) -> Option<Rule>
     match (left, right) {
         (DataType::Date, DataType::Date) => {
             let dtype = DataType::Duration(TimeUnit::Milliseconds);
-            Some(Rule { dtype, row: OperatorRow::DatesApart })
+            Some(Rule {
+                dtype,
+                row: OperatorRow::DatesApart,
+            })
         }
         (DataType::Time, DataType::Time) => {
             let dtype = DataType::Duration(TimeUnit::Nanoseconds);
-            Some(Rule { dtype, row: OperatorRow::TimesApart })
+            Some(Rule {
+                dtype,
+                row: OperatorRow::TimesApart,
+            })
         }
         (DataType::Date, DataType::Duration(v)) => {
-            Some(Rule { dtype: DataType::Date, row: date_with(Meeting::Difference, *v) })
+            Some(Rule {
+                dtype: DataType::Date,
+                row: date_with(Meeting::Difference, *v),
+            })
         }
         (DataType::Date, DataType::Datetime(v, _)) => {
             let row = difference(day(*v), Operand::Moment(UnitChange::Same));
-            Some(Rule { dtype: DataType::Duration(*v), row })
+            Some(Rule {
+                dtype: DataType::Duration(*v),
+                row,
+            })
         }
         (DataType::Datetime(u, _), DataType::Date) => {
             let row = difference(Operand::Moment(UnitChange::Same), day(*u));
-            Some(Rule { dtype: DataType::Duration(*u), row })
+            Some(Rule {
+                dtype: DataType::Duration(*u),
+                row,
+            })
         }
         (DataType::Datetime(u, y), DataType::Datetime(v, z)) => {
             if !same_zone(y, z) {
@@ -188,17 +218,26 @@ fn difference_rule(left: &DataType, right: &DataType) -> Option<Rule>
             }
             let w = get_time_units(*u, *v);
             let row = difference(moment(*u, w), moment(*v, w));
-            Some(Rule { dtype: DataType::Duration(w), row })
+            Some(Rule {
+                dtype: DataType::Duration(w),
+                row,
+            })
         }
         (DataType::Datetime(u, zone), DataType::Duration(v)) => {
             let w = get_time_units(*u, *v);
             let row = difference(moment(*u, w), length(*v, w));
-            Some(Rule { dtype: DataType::Datetime(w, *zone), row })
+            Some(Rule {
+                dtype: DataType::Datetime(w, *zone),
+                row,
+            })
         }
         (DataType::Duration(u), DataType::Duration(v)) => {
             let w = get_time_units(*u, *v);
             let row = difference(length(*u, w), length(*v, w));
-            Some(Rule { dtype: DataType::Duration(w), row })
+            Some(Rule {
+                dtype: DataType::Duration(w),
+                row,
+            })
         }
         _ => None,
     }
@@ -212,7 +251,10 @@ fn rest_rule(left: &DataType, right: &DataType) -> Option<Rule>
         (DataType::Duration(u), DataType::Duration(v)) => {
             let w = get_time_units(*u, *v);
             let row = OperatorRow::Rest(unit_change(*u, w), unit_change(*v, w));
-            Some(Rule { dtype: DataType::Duration(w), row })
+            Some(Rule {
+                dtype: DataType::Duration(w),
+                row,
+            })
         }
         _ => None,
     }

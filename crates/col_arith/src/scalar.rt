@@ -10,12 +10,7 @@ use std::alloc::Global;
 
 /// The column joined with an integer on its right, in the column's type. Refused where the type has
 /// no integers (`Types`), then where its word doesn't hold this one (`Scalar`).
-pub fn scalar_right(
-    alloc: Global,
-    column: &Series,
-    op: ScalarOp,
-    rhs: i128,
-) -> PolarsResult<Series>
+pub fn scalar_right(alloc: Global, column: &Series, op: ScalarOp, rhs: i128) -> PolarsResult<Series>
     ensures column { Gives result (scalar_right_of column.now op rhs) }
 {
     scalar(alloc, column, ScalarForm::Right(op), rhs)

@@ -159,7 +159,10 @@ pub(crate) fn met_tick(row: OperatorRow, left: i64, right: i64) -> Option<i64>
             operand_tick(right_operand, right),
         ),
         OperatorRow::Rest(left_change, right_change) => {
-            rest_of_both(duration_by(left, left_change), duration_by(right, right_change))
+            rest_of_both(
+                duration_by(left, left_change),
+                duration_by(right, right_change),
+            )
         }
     }
 }

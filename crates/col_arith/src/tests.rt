@@ -1,0 +1,206 @@
+// Arithmetic at values known by hand.
+ghost use Rattle.std.specs.Prelude.{◌≡◌, true};
+ghost use Rattle.col_model.specs.Column.{is_built_type};
+
+use super::*;
+use col_series::Series;
+use col_types::{
+    BinOp, DataType, Kind, OpName, PlSmallStr, PolarsError, PolarsResult, TimeUnit, TimeZone,
+};
+use std::alloc::Global;
+use std::test::Fail;
+
+const NANOS: TimeUnit = TimeUnit::Nanoseconds;
+
+const MICROS: TimeUnit = TimeUnit::Microseconds;
+
+const MILLIS: TimeUnit = TimeUnit::Milliseconds;
+
+fn column(alloc: Global, dtype: &DataType, slots: &[Option<i128>]) -> PolarsResult<Series>
+    requires built_type { is_built_type dtype.now ≡ true }
+{
+    let name = PlSmallStr::from_str(alloc, "work")?;
+    Series::from_slots(alloc, name, dtype, slots)
+}
+
+/// The first slot of an answer.
+fn first(answer: PolarsResult<Series>) -> PolarsResult<Option<i64>> {
+    let column = answer?;
+    match column.ticks() {
+        [slot, ..] => Ok(*slot),
+        [] => Ok(None),
+    }
+}
+
+/// The first two slots of an answer, null past its rows.
+fn both(answer: PolarsResult<Series>) -> PolarsResult<(Option<i64>, Option<i64>)> {
+    let column = answer?;
+    match column.ticks() {
+        [first, second, ..] => Ok((*first, *second)),
+        [first] => Ok((*first, None)),
+        [] => Ok((None, None)),
+    }
+}
+
+/// What one value of each type gives.
+fn joined(
+    alloc: Global,
+    op: BinOp,
+    left: (&DataType, i128),
+    right: (&DataType, i128),
+) -> PolarsResult<Option<i64>>
+    requires left { is_built_type left.entry.0.now ≡ true }
+    requires right { is_built_type right.entry.0.now ≡ true }
+{
+    let left = column(alloc, left.0, &[Some(left.1)])?;
+    let right = column(alloc, right.0, &[Some(right.1)])?;
+    first(binary(alloc, op, &left, &right))
+}
+
+#[test]
+fn moments_and_lengths_meet(rt: HostRuntime) {
+    let alloc = rt.alloc();
+    let moment = DataType::Datetime(NANOS, None);
+    let length = DataType::Duration(MILLIS);
+    let nanos = DataType::Duration(NANOS);
+    let date = DataType::Date;
+    let later = joined(alloc, BinOp::Add, (&moment, 1_999_999), (&length, 3));
+    assert_eq!(rt; later, Ok(Some(4)));
+    let day = joined(alloc, BinOp::Add, (&date, 10), (&nanos, -1));
+    assert_eq!(rt; day, Ok(Some(10)));
+    let day = joined(alloc, BinOp::Add, (&nanos, -1), (&date, 10));
+    assert_eq!(rt; day, Ok(Some(9)));
+    let far = (&length, 9_223_372_036_854_775_807);
+    assert_eq!(rt;
+        joined(alloc, BinOp::Add, (&date, 2_147_483_647), far),
+        Ok(None)
+    );
+}
+
+#[test]
+fn types_without_an_operator_are_refused(rt: HostRuntime) {
+    let alloc = rt.alloc();
+    let plain = DataType::Datetime(MILLIS, None);
+    let zoned = DataType::Datetime(MILLIS, Some(TimeZone::utc()));
+    let refused = PolarsError::Types {
+        op: OpName::Sub,
+        left: Kind::Datetime(MILLIS),
+        right: Kind::Datetime(MILLIS),
+    };
+    assert_eq!(rt;
+        joined(alloc, BinOp::Sub, (&plain, 1), (&zoned, 1)),
+        Err(refused)
+    );
+    let refused = PolarsError::Types {
+        op: OpName::Sub,
+        left: Kind::Duration(MILLIS),
+        right: Kind::Date,
+    };
+    let length = DataType::Duration(MILLIS);
+    assert_eq!(rt;
+        joined(alloc, BinOp::Sub, (&length, 1), (&DataType::Date, 1)),
+        Err(refused)
+    );
+}
+
+#[test]
+fn lengths_come_first(rt: HostRuntime) -> Result<(), Fail> {
+    let alloc = rt.alloc();
+    let one = column(alloc, &DataType::Date, &[Some(1)])?;
+    let none = column(alloc, &DataType::Date, &[])?;
+    assert_eq!(rt; one.try_sub(alloc, &none)?.len(), 0);
+    let two = column(alloc, &DataType::Date, &[Some(1), Some(2)])?;
+    let three = column(alloc, &DataType::Time, &[Some(1), None, Some(2)])?;
+    let refused = PolarsError::Lengths { left: 2, right: 3 };
+    assert_eq!(rt; first(two.try_add(alloc, &three)), Err(refused));
+    let apart = both(one.try_sub(alloc, &two));
+    assert_eq!(rt; apart, Ok((Some(0), Some(-86_400_000))));
+    Ok(())
+}
+
+#[test]
+fn rests_have_the_sign_of_the_divisor(rt: HostRuntime) -> Result<(), Fail> {
+    let alloc = rt.alloc();
+    let lengths = column(alloc, &DataType::Duration(MILLIS), &[Some(7), Some(-7)])?;
+    let divisor = column(alloc, &DataType::Duration(MICROS), &[Some(3_000)])?;
+    assert_eq!(rt;
+        both(lengths.try_rem(alloc, &divisor)),
+        Ok((Some(1), Some(2)))
+    );
+    let nothing = column(alloc, &DataType::Duration(MICROS), &[Some(0)])?;
+    assert_eq!(rt; both(lengths.try_rem(alloc, &nothing)), Ok((None, None)));
+    Ok(())
+}
+
+#[test]
+fn columns_of_one_type_meet(rt: HostRuntime) -> Result<(), Fail> {
+    let alloc = rt.alloc();
+    let seven = column(alloc, &DataType::Duration(MILLIS), &[Some(7)])?;
+    let three = column(alloc, &DataType::Duration(MILLIS), &[Some(3)])?;
+    assert_eq!(rt; first(seven.add_to(alloc, &three)), Ok(Some(10)));
+    assert_eq!(rt; first(seven.subtract(alloc, &three)), Ok(Some(4)));
+    assert_eq!(rt; first(seven.remainder(alloc, &three)), Ok(Some(1)));
+    let kind = Kind::Duration(MILLIS);
+    let refused = PolarsError::Types {
+        op: OpName::Mul,
+        left: kind,
+        right: kind,
+    };
+    assert_eq!(rt; first(seven.multiply(alloc, &three)), Err(refused));
+    let refused = PolarsError::Types {
+        op: OpName::Div,
+        left: kind,
+        right: kind,
+    };
+    assert_eq!(rt; first(seven.divide(alloc, &three)), Err(refused));
+    Ok(())
+}
+
+#[test]
+fn columns_of_two_units_are_coerced(rt: HostRuntime) -> Result<(), Fail> {
+    let alloc = rt.alloc();
+    let seven = column(alloc, &DataType::Duration(MILLIS), &[Some(7)])?;
+    let three = column(alloc, &DataType::Duration(MICROS), &[Some(3_000)])?;
+    let refused = PolarsError::Types {
+        op: OpName::Add,
+        left: Kind::Duration(MILLIS),
+        right: Kind::Duration(MICROS),
+    };
+    assert_eq!(rt; first(seven.add_to(alloc, &three)), Err(refused));
+    let (left, right) = coerce_lhs_rhs(alloc, &seven, &three)?;
+    assert!(rt; right.dtype().is_same(&DataType::Duration(MILLIS)));
+    assert_eq!(rt; first(Ok(left)), Ok(Some(7)));
+    assert_eq!(rt; first(Ok(right)), Ok(Some(3)));
+    Ok(())
+}
+
+#[test]
+fn quotients_by_an_integer_wrap(rt: HostRuntime) -> Result<(), Fail> {
+    let alloc = rt.alloc();
+    let least = -9_223_372_036_854_775_808;
+    let lengths = column(alloc, &DataType::Duration(NANOS), &[Some(least), Some(-7)])?;
+    let half = Some(-4_611_686_018_427_387_904);
+    let negated = both(lengths.div_scalar(alloc, -1));
+    assert_eq!(rt; negated, Ok((Some(-9_223_372_036_854_775_808), Some(7))));
+    assert_eq!(rt; both(lengths.div_scalar(alloc, 2)), Ok((half, Some(-4))));
+    let halves = both(lengths.wrapping_trunc_div_scalar(alloc, 2));
+    assert_eq!(rt; halves, Ok((half, Some(-3))));
+    assert_eq!(rt; both(lengths.div_scalar(alloc, 0)), Ok((None, None)));
+    Ok(())
+}
+
+#[test]
+fn integers_stay_in_the_word(rt: HostRuntime) -> Result<(), Fail> {
+    let alloc = rt.alloc();
+    let last = column(alloc, &DataType::Date, &[Some(2_147_483_647)])?;
+    assert_eq!(rt; first(last.add_scalar(alloc, 1)), Ok(Some(-2_147_483_648)));
+    let refused = PolarsError::Scalar {
+        value: 2_147_483_648,
+    };
+    assert_eq!(rt; first(last.add_scalar(alloc, 2_147_483_648)), Err(refused));
+    let ten = column(alloc, &DataType::Date, &[Some(10)])?;
+    assert_eq!(rt; first(ten.lhs_sub(alloc, 3)), Ok(Some(-7)));
+    let late = column(alloc, &DataType::Time, &[Some(86_399_999_999_999)])?;
+    assert_eq!(rt; first(late.add_scalar(alloc, 1)), Ok(None));
+    Ok(())
+}
