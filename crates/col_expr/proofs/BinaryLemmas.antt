@@ -110,8 +110,9 @@ found_binary inputs first second node op l r c d answer at next left right gives
     gives
 
 -- a refusal below the left operand is that of the whole
-pub refused_left : (inputs : List Column) (first : ℕ) (op : BinOp) (l r : Tree) (error : EvalError) →
-    IsFound inputs first l (Err error) → IsFound inputs first (Binary op l r) (Err error)
+pub refused_left : (inputs : List Column) (first : ℕ) (op : BinOp) (l r : Tree)
+    (error : EvalError) → IsFound inputs first l (Err error) →
+    IsFound inputs first (Binary op l r) (Err error)
 refused_left inputs first op l r error = Unless-map error (λ h. rw h refl)
 
 -- a refusal below the right operand is that of the whole, where the left one is not refused

@@ -125,7 +125,8 @@ column_of_ruled inputs t e c rule is name dtype rows slot flag =
       named = name ∙ is.named;
       typed = dtype;
       long = rows ∙ is.long ∙ ap Some (sym long);
-      filled = ap (map (slot_by rule)) is.filled ∙ map-column_slots (slot_by rule) (slot_at inputs e) n
+      filled = ap (map (slot_by rule)) is.filled
+          ∙ map-column_slots (slot_by rule) (slot_at inputs e) n
           ∙ column_slots-same (λ row. slot_by rule (slot_at inputs e row)) (slot_at inputs t) n
           (λ row h. slot row)
           ∙ ap (column_slots (slot_at inputs t)) (sym long);
@@ -261,7 +262,8 @@ found_unary inputs first node op e c answer at operand gives =
     operand.fine
     ∙ ap (λ number. refusal_at inputs number (over op e)) (sym at) in
     let P : Option EvalError → Type 0 = λ r. IsDueBy inputs r (over op e) (unary_at node op c) in
-    found_due inputs (first_refusal inputs first (over op e)) (over op e) (unary_at node op c) answer
+    found_due inputs (first_refusal inputs first (over op e)) (over op e) (unary_at node op c)
+    answer
     (subst P (sym refused) (due_unary inputs node op e c operand.column_is))
     gives
 

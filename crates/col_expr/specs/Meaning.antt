@@ -1,4 +1,4 @@
--- The name, the type, the rows and each slot of a node, over the columns that an expression is given.
+-- The name, the type, the rows and each slot of a node, over the columns of an expression.
 use Rattle.std.specs.Prelude.{ℕ, ℤ, ◌+◌, Bool, false, List, [], length, Option, Some, None, slice_get, slice_index_or, unwrap_or, if◌then◌else◌}
 use Rattle.std.specs.Option.{option_map, option_and_then}
 use Rattle.col_types.specs.DataType.{is_expression_target}
@@ -50,7 +50,8 @@ broadcast_length_for (Some left) (Some right) = broadcast_length left right
 -- the type of a cast, none for a target that no expression can have
 abbrev pub cast_dtype : Option DataType → DataType → Option DataType
 cast_dtype from target =
-    if is_expression_target target then option_map (λ dtype. resolved_target dtype target) from else None
+    if is_expression_target target then option_map (λ dtype. resolved_target dtype target) from
+    else None
 
 -- the type of a row's answer
 abbrev pub rule_dtype : Option OperatorRule → Option DataType
@@ -91,17 +92,22 @@ name_of inputs (Shift operand periods) = name_of inputs operand
 abbrev pub dtype_of : List Column → Tree → Option DataType
 dtype_of inputs (Input index) = option_map (λ (c : Column). c.dtype) (slice_get inputs index)
 dtype_of inputs (Cast operand target options) = cast_dtype (dtype_of inputs operand) target
-dtype_of inputs (Binary op left right) = rule_dtype (operator_rule_for op (dtype_of inputs left) (dtype_of inputs right))
-dtype_of inputs (ScalarRight operand op value) = rule_dtype (scalar_right_rule_for (dtype_of inputs operand) op value)
-dtype_of inputs (ScalarLeft value op operand) = rule_dtype (scalar_left_rule_for value op (dtype_of inputs operand))
-dtype_of inputs (InUnit operand unit) = rule_dtype (unit_change_rule_for (dtype_of inputs operand) unit)
+dtype_of inputs (Binary op left right) =
+    rule_dtype (operator_rule_for op (dtype_of inputs left) (dtype_of inputs right))
+dtype_of inputs (ScalarRight operand op k) =
+    rule_dtype (scalar_right_rule_for (dtype_of inputs operand) op k)
+dtype_of inputs (ScalarLeft k op operand) =
+    rule_dtype (scalar_left_rule_for k op (dtype_of inputs operand))
+dtype_of inputs (InUnit operand unit) =
+    rule_dtype (unit_change_rule_for (dtype_of inputs operand) unit)
 dtype_of inputs (Shift operand periods) = dtype_of inputs operand
 
 -- how many rows a node has, none where an operand has none or two operands don't fit each other
 abbrev pub rows_of : List Column → Tree → Option ℕ
 rows_of inputs (Input index) = option_map (λ (c : Column). length c.slots) (slice_get inputs index)
 rows_of inputs (Cast operand dtype options) = rows_of inputs operand
-rows_of inputs (Binary op left right) = broadcast_length_for (rows_of inputs left) (rows_of inputs right)
+rows_of inputs (Binary op left right) =
+    broadcast_length_for (rows_of inputs left) (rows_of inputs right)
 rows_of inputs (ScalarRight operand op value) = rows_of inputs operand
 rows_of inputs (ScalarLeft value op operand) = rows_of inputs operand
 rows_of inputs (InUnit operand unit) = rows_of inputs operand
@@ -118,21 +124,28 @@ input_slot (Some column) row = slice_index_or column.slots row None
 -- the slot of a node in a row: one formula on the operands' slots in that row
 abbrev pub slot_at : List Column → Tree → ℕ → Option Value
 slot_at inputs (Input index) row = input_slot (slice_get inputs index) row
-slot_at inputs (Cast operand target options) row = cast_slot (cast_rule_for (dtype_of inputs operand) target options) (slot_at inputs operand row)
+slot_at inputs (Cast operand target options) row =
+    cast_slot (cast_rule_for (dtype_of inputs operand) target options)
+    (slot_at inputs operand row)
 slot_at inputs (Binary op left right) row =
     rule_slots (operator_rule_for op (dtype_of inputs left) (dtype_of inputs right))
     (slot_at inputs left (operand_row (row_count inputs left) row))
     (slot_at inputs right (operand_row (row_count inputs right) row))
 slot_at inputs (ScalarRight operand op k) row =
-    scalar_slot (dtype_of inputs operand) k (scalar_right_rule_for (dtype_of inputs operand) op k) (slot_at inputs operand row)
+    scalar_slot (dtype_of inputs operand) k (scalar_right_rule_for (dtype_of inputs operand) op k)
+    (slot_at inputs operand row)
 slot_at inputs (ScalarLeft k op operand) row =
-    scalar_slot (dtype_of inputs operand) k (scalar_left_rule_for k op (dtype_of inputs operand)) (slot_at inputs operand row)
-slot_at inputs (InUnit operand unit) row = rule_slot (unit_change_rule_for (dtype_of inputs operand) unit) (slot_at inputs operand row)
-slot_at inputs (Shift operand periods) row = option_and_then (slot_at inputs operand) (row_before (row_count inputs operand) periods row)
+    scalar_slot (dtype_of inputs operand) k (scalar_left_rule_for k op (dtype_of inputs operand))
+    (slot_at inputs operand row)
+slot_at inputs (InUnit operand unit) row =
+    rule_slot (unit_change_rule_for (dtype_of inputs operand) unit) (slot_at inputs operand row)
+slot_at inputs (Shift operand periods) row =
+    option_and_then (slot_at inputs operand) (row_before (row_count inputs operand) periods row)
 
 -- the flag of an input is its own; no other node's is kept yet
 abbrev pub flag_of : List Column → Tree → IsSorted
-flag_of inputs (Input index) = unwrap_or (option_map (λ (c : Column). c.flag) (slice_get inputs index)) Not
+flag_of inputs (Input index) =
+    unwrap_or (option_map (λ (c : Column). c.flag) (slice_get inputs index)) Not
 flag_of inputs _ = Not
 
 -- the column of an expression of which no node is refused
@@ -149,9 +162,14 @@ result_column inputs tree = record {
 -- the slots of all nodes that aren't inputs
 abbrev pub step_count : List Column → Tree → ℕ
 step_count inputs (Input index) = 0
-step_count inputs (Cast operand dtype options) = step_count inputs operand + row_count inputs operand
-step_count inputs (Binary op left right) = step_count inputs left + step_count inputs right + row_count inputs (Binary op left right)
-step_count inputs (ScalarRight operand op value) = step_count inputs operand + row_count inputs operand
-step_count inputs (ScalarLeft value op operand) = step_count inputs operand + row_count inputs operand
+step_count inputs (Cast operand dtype options) =
+    step_count inputs operand + row_count inputs operand
+step_count inputs (Binary op left right) =
+    step_count inputs left + step_count inputs right
+    + row_count inputs (Binary op left right)
+step_count inputs (ScalarRight operand op value) =
+    step_count inputs operand + row_count inputs operand
+step_count inputs (ScalarLeft value op operand) =
+    step_count inputs operand + row_count inputs operand
 step_count inputs (InUnit operand unit) = step_count inputs operand + row_count inputs operand
 step_count inputs (Shift operand periods) = step_count inputs operand + row_count inputs operand

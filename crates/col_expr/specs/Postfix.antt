@@ -27,7 +27,8 @@ stack_with keeps (ShiftBy periods) (e ∷ stack) = onto keeps (Shift e periods) 
 abbrev pub stack_after : (Tree → Bool) → Option (List Tree) → List Symbol → Option (List Tree)
 stack_after keeps None symbols = None
 stack_after keeps (Some stack) [] = Some stack
-stack_after keeps (Some stack) (symbol ∷ symbols) = stack_after keeps (stack_with keeps symbol stack) symbols
+stack_after keeps (Some stack) (symbol ∷ symbols) =
+    stack_after keeps (stack_with keeps symbol stack) symbols
 
 -- the one tree on the stack
 abbrev pub only_tree : List Tree → Option Tree

@@ -38,13 +38,17 @@ at_node node (errors.TooLong len) = refusals.NoMemory
 at_node node errors.FalseMark = refusals.NoMemory
 
 -- the refusal of a cast of an operand of this type and these slots to a target that isn't bad
-abbrev pub pair_refusal_at : ℕ → Option DataType → DataType → CastOptions → List (Option Value) → Option EvalError
+abbrev pub pair_refusal_at : ℕ → Option DataType → DataType → CastOptions → List (Option Value) →
+    Option EvalError
 pair_refusal_at node None target options slots = None
 pair_refusal_at node (Some from) target options slots =
-    option_map (at_node node) (pair_refusal from target options (cast_rule_for (Some from) target options) slots)
+    option_map (at_node node)
+    (pair_refusal from target options (cast_rule_for (Some from) target options) slots)
 
--- the refusal of a cast: a target that no expression can have, then a pair outside the table, then a lost slot
-abbrev pub cast_refusal_at : ℕ → Option DataType → DataType → CastOptions → List (Option Value) → Option EvalError
+-- the refusal of a cast: a target that no expression can have, then a pair outside the table, then
+-- a lost slot
+abbrev pub cast_refusal_at : ℕ → Option DataType → DataType → CastOptions → List (Option Value) →
+    Option EvalError
 cast_refusal_at node from target options slots =
     if is_expression_target target then pair_refusal_at node from target options slots
     else Some (refusals.BadType node)
@@ -67,18 +71,24 @@ binary_refusal_at node left right (Some rows) rule = unsupported_at node rule
 
 -- why a node of this number is refused, where its operands are not
 abbrev pub refusal_at : List Column → ℕ → Tree → Option EvalError
-refusal_at inputs node (Input index) = if nat_lt index (length inputs) then None else Some (refusals.NoColumn node index (length inputs))
+refusal_at inputs node (Input index) =
+    if nat_lt index (length inputs) then None
+    else Some (refusals.NoColumn node index (length inputs))
 refusal_at inputs node (Cast operand target options) =
-    cast_refusal_at node (dtype_of inputs operand) target options (column_slots (slot_at inputs operand) (row_count inputs operand))
+    cast_refusal_at node (dtype_of inputs operand) target options
+    (column_slots (slot_at inputs operand) (row_count inputs operand))
 refusal_at inputs node (Binary op left right) =
     binary_refusal_at node (row_count inputs left) (row_count inputs right)
     (broadcast_length_for (rows_of inputs left) (rows_of inputs right))
     (operator_rule_for op (dtype_of inputs left) (dtype_of inputs right))
 refusal_at inputs node (ScalarRight operand op k) =
-    scalar_refusal_at node (dtype_of inputs operand) k (scalar_right_rule_for (dtype_of inputs operand) op k)
+    scalar_refusal_at node (dtype_of inputs operand) k
+    (scalar_right_rule_for (dtype_of inputs operand) op k)
 refusal_at inputs node (ScalarLeft k op operand) =
-    scalar_refusal_at node (dtype_of inputs operand) k (scalar_left_rule_for k op (dtype_of inputs operand))
-refusal_at inputs node (InUnit operand unit) = unsupported_at node (unit_change_rule_for (dtype_of inputs operand) unit)
+    scalar_refusal_at node (dtype_of inputs operand) k
+    (scalar_left_rule_for k op (dtype_of inputs operand))
+refusal_at inputs node (InUnit operand unit) =
+    unsupported_at node (unit_change_rule_for (dtype_of inputs operand) unit)
 refusal_at inputs node (Shift operand periods) = None
 
 -- the first, or else the second
@@ -86,23 +96,28 @@ abbrev pub or_else : {T : Type 0} → Option T → Option T → Option T
 or_else None second = second
 or_else (Some x) second = Some x
 
--- the refusal of the least refused node, where the nodes are numbered in postfix order from `first` on
+-- the refusal of the least refused node, where nodes are numbered in postfix order from `first` on
 abbrev pub first_refusal : List Column → ℕ → Tree → Option EvalError
 first_refusal inputs first (Input index) = refusal_at inputs first (Input index)
 first_refusal inputs first (Cast operand dtype options) =
-    or_else (first_refusal inputs first operand) (refusal_at inputs (first + node_count operand) (Cast operand dtype options))
+    or_else (first_refusal inputs first operand)
+    (refusal_at inputs (first + node_count operand) (Cast operand dtype options))
 first_refusal inputs first (Binary op left right) =
     or_else (first_refusal inputs first left)
     (or_else (first_refusal inputs (first + node_count left) right)
     (refusal_at inputs (first + node_count left + node_count right) (Binary op left right)))
 first_refusal inputs first (ScalarRight operand op value) =
-    or_else (first_refusal inputs first operand) (refusal_at inputs (first + node_count operand) (ScalarRight operand op value))
+    or_else (first_refusal inputs first operand)
+    (refusal_at inputs (first + node_count operand) (ScalarRight operand op value))
 first_refusal inputs first (ScalarLeft value op operand) =
-    or_else (first_refusal inputs first operand) (refusal_at inputs (first + node_count operand) (ScalarLeft value op operand))
+    or_else (first_refusal inputs first operand)
+    (refusal_at inputs (first + node_count operand) (ScalarLeft value op operand))
 first_refusal inputs first (InUnit operand unit) =
-    or_else (first_refusal inputs first operand) (refusal_at inputs (first + node_count operand) (InUnit operand unit))
+    or_else (first_refusal inputs first operand)
+    (refusal_at inputs (first + node_count operand) (InUnit operand unit))
 first_refusal inputs first (Shift operand periods) =
-    or_else (first_refusal inputs first operand) (refusal_at inputs (first + node_count operand) (Shift operand periods))
+    or_else (first_refusal inputs first operand)
+    (refusal_at inputs (first + node_count operand) (Shift operand periods))
 
 -- the column of an expression, or its first refused node
 abbrev pub outcome : List Column → Tree → Result Column EvalError

@@ -73,8 +73,8 @@ fn cast_column(
     at_node(column.cast_with_options(alloc, target, options), node)
 }
 
-// A column's answer as that of a node. No call of one column is refused for lengths, nor any for the
-// causes that are left.
+// A column's answer as that of a node. No call of one column is refused for lengths, and none for
+// the causes that are left.
 pub(crate) fn at_node(answer: PolarsResult<Series>, node: u32) -> Result<Series, EvalError>
     ensures answer { (expected : Result Column PolarsError) →
         column_calls.Gives answer expected → Gives result (numbered node expected) }
