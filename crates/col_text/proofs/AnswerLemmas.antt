@@ -1,8 +1,8 @@
 -- A row's text is that of its slot.
-use Rattle.std.proofs.Common.{◌≡◌, ◌<◌, ℕ, Bool, true, false, List, [], ◌∷◌, length, Option, Some, None, Result, Ok, refl, ap, ◌∙◌, zero, suc}
-use Rattle.std.specs.Prelude.{◌&&◌, slice_index_or}
+use Rattle.std.proofs.Common.{◌≡◌, ◌<◌, ℕ, true, List, [], ◌∷◌, length, Option, Some, None, Result, Ok, refl, ap, ◌∙◌, zero, suc}
+use Rattle.std.specs.Prelude.{slice_index_or}
 use Rattle.std.specs.List.{list_all}
-use Rattle.std.proofs.lemmas.Bool.{lt-ltb}
+use Rattle.std.proofs.lemmas.Bool.{and_parts, lt-ltb}
 use Rattle.col_types.specs.declared.data_type.DataType.{DataType, Date, Datetime, Duration, Time}
 use Rattle.col_model.specs.Value.{Value, Flat, Nested, Whole, Bytes}
 use Rattle.col_model.specs.Column.{Column, IsValidColumn, is_built_type, is_slot_of}
@@ -30,19 +30,15 @@ seen_text-slot Time (Some (Flat (Bytes bytes))) built fits = cc
 seen_text-slot Time (Some (Nested leaves)) built fits = cc
 seen_text-slot dtype slot built fits = cc
 
-both : (a b : Bool) → (a && b) ≡ true → (a ≡ true) × (b ≡ true)
-both true b h = (refl, h)
-both false b h = cc
-
 slice_index_or-fits : (dtype : DataType) (slots : List (Option Value)) (row : ℕ)
     → list_all (is_slot_of dtype) slots ≡ true
     → is_slot_of dtype (slice_index_or slots row None) ≡ true
 slice_index_or-fits dtype [] row h = refl
 slice_index_or-fits dtype (slot ∷ slots) zero h =
-    (both (is_slot_of dtype slot) (list_all (is_slot_of dtype) slots) h).0
+    (and_parts (is_slot_of dtype slot) (list_all (is_slot_of dtype) slots) h).0
 slice_index_or-fits dtype (slot ∷ slots) (suc row) h =
     slice_index_or-fits dtype slots row
-    (both (is_slot_of dtype slot) (list_all (is_slot_of dtype) slots) h).1
+    (and_parts (is_slot_of dtype slot) (list_all (is_slot_of dtype) slots) h).1
 
 abbrev IsSame : {X E : Type 0} → Result X E → Result X E → Type 0
 IsSame left right = left ≡ right

@@ -30,7 +30,8 @@ by_symbol stack (Some symbol) (Some symbols) = refl
 
 -- a token that is read goes from the front of those that are left to the stack
 pub tree_from-step : (zones : List (List ℕ)) (stack read : List Tree) (token : List ℕ)
-    (tokens words : List (List ℕ)) (all : Option Tree) → words ≡ token ∷ tokens → stack_after_token zones stack token ≡ Some read
+    (tokens words : List (List ℕ)) (all : Option Tree) → words ≡ token ∷ tokens
+    → stack_after_token zones stack token ≡ Some read
     → tree_from (Some stack) (symbols_of zones words) ≡ all
     → tree_from (Some read) (symbols_of zones tokens) ≡ all
 tree_from-step zones stack read token tokens words all cut step h =

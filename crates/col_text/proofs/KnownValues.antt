@@ -58,7 +58,8 @@ dtypes : (column_dtype [] (codes "date") ≡ Some Date) × (column_dtype [] (cod
     × (column_dtype [] (codes "duration[ms]") ≡ Some (Duration Milliseconds))
     × (column_dtype [] (codes "duration[ms,]") ≡ None) × (column_dtype [] (codes "string") ≡ None)
     × (column_dtype [] (codes "datetime[ms,UTC") ≡ None)
-    × (column_dtype [] (codes "datetime[ms,UTC]") ≡ Some (Datetime Milliseconds (Some (codes "UTC"))))
+    × (column_dtype [] (codes "datetime[ms,UTC]")
+    ≡ Some (Datetime Milliseconds (Some (codes "UTC"))))
 dtypes = (refl, refl, refl, refl, refl, refl, refl, refl, refl)
 
 -- an offset names the zone whose sign is turned, unless the offset was handed in as a name

@@ -4,14 +4,10 @@ use Rattle.std.specs.Prelude.{◌&&◌, ◌||◌, nat_le, nat_lt, codes}
 use Rattle.std.specs.List.{list_all, list_any}
 use Rattle.std.specs.Str.{IsAscii, IsUtf8}
 use Rattle.std.proofs.lemmas.Str.{IsUtf8-from_ascii}
-use Rattle.std.proofs.lemmas.Bool.{false≢true, ltb-true, leb-true, eqb-true}
+use Rattle.std.proofs.lemmas.Bool.{false≢true, and_parts, ltb-true, leb-true, eqb-true}
 use Rattle.col_text.specs.Parts.{is_graphic}
 use Rattle.col_text.specs.Slots.{is_name}
 use Rattle.col_text.specs.Zone.{is_zone_byte, is_zone_name}
-
-both : (a b : Bool) → (a && b) ≡ true → (a ≡ true) × (b ≡ true)
-both true b h = (refl, h)
-both false b h = cc
 
 either : (a b : Bool) → (a || b) ≡ true → (a ≡ true) ⊎ (b ≡ true)
 either true b h = inl refl
@@ -25,13 +21,13 @@ IsAscii-all : (test : ℕ → Bool) → IsAsciiTest test → (bytes : List ℕ) 
     → IsAscii bytes
 IsAscii-all test is_ascii [] h i = lit< tt
 IsAscii-all test is_ascii (b ∷ bytes) h zero =
-    is_ascii b (both (test b) (list_all test bytes) h).0
+    is_ascii b (and_parts (test b) (list_all test bytes) h).0
 IsAscii-all test is_ascii (b ∷ bytes) h (suc i) =
-    IsAscii-all test is_ascii bytes (both (test b) (list_all test bytes) h).1 i
+    IsAscii-all test is_ascii bytes (and_parts (test b) (list_all test bytes) h).1 i
 
 up_to : (low high byte : ℕ) → high < 128 → (nat_le low byte && nat_le byte high) ≡ true → byte < 128
 up_to low high byte small h =
-    let most = (both (nat_le low byte) (nat_le byte high) h).1 in
+    let most = (and_parts (nat_le low byte) (nat_le byte high) h).1 in
     let below : byte ≤ high = leb-true byte high most in
     omega arith
 
@@ -65,25 +61,25 @@ IsUtf8-graphic bytes h =
 
 -- a name is text
 pub IsUtf8-name : (bytes : List ℕ) → is_name bytes ≡ true → IsUtf8 bytes
-IsUtf8-name bytes h = IsUtf8-graphic bytes (both _ (list_all is_graphic bytes) h).1
+IsUtf8-name bytes h = IsUtf8-graphic bytes (and_parts _ (list_all is_graphic bytes) h).1
 
 -- a zone's name is text
 pub IsUtf8-zone_name : (bytes : List ℕ) → is_zone_name bytes ≡ true → IsUtf8 bytes
 IsUtf8-zone_name bytes h =
     IsUtf8-from_ascii bytes
-    (IsAscii-all is_zone_byte is_zone_byte-ascii bytes (both _ (list_all is_zone_byte bytes) h).1)
+    (IsAscii-all is_zone_byte is_zone_byte-ascii bytes (and_parts _ (list_all is_zone_byte bytes) h).1)
 
 -- a zone's name isn't empty
 pub is_zone_name-filled : (name : List ℕ) → is_zone_name name ≡ true → 0 < length name
 is_zone_name-filled name h =
     ltb-true 0 (length name)
-    (both _ (nat_le (length name) 64) (both _ (list_all is_zone_byte name) h).0).0
+    (and_parts _ (nat_le (length name) 64) (and_parts _ (list_all is_zone_byte name) h).0).0
 
 -- a zone's name has room
 pub is_zone_name-short : (name : List ℕ) → is_zone_name name ≡ true → length name ≤ 64
 is_zone_name-short name h =
     leb-true (length name) 64
-    (both (nat_lt 0 (length name)) _ (both _ (list_all is_zone_byte name) h).0).1
+    (and_parts (nat_lt 0 (length name)) _ (and_parts _ (list_all is_zone_byte name) h).0).1
 
 -- a zone's name isn't the wildcard
 pub is_zone_name-no_wildcard : (name : List ℕ) → is_zone_name name ≡ true → name ≢ codes "*"

@@ -69,10 +69,14 @@ scalar_op_named text =
 abbrev pub binary_symbol : List ℕ → Option Symbol
 binary_symbol text = option_map Apply (op_named text)
 
+-- the byte of `#`
+abbrev pub hash : ℕ
+hash = 35
+
 -- what stands before the first `#` of a token, and what stands behind it
 abbrev pub hash_parts : List ℕ → Option (List ℕ × List ℕ)
 hash_parts text =
-    option_map (λ at. (take at text, drop (at + 1) text)) (position (λ byte. nat_eq byte 35) text)
+    option_map (λ at. (take at text, drop (at + 1) text)) (position (λ byte. nat_eq byte hash) text)
 
 -- an operator's sign, `#`, and an integer: the integer is the right operand
 abbrev pub right_symbol : List ℕ → Option Symbol
@@ -96,7 +100,8 @@ unit_named text =
 
 -- `unit:UNIT` changes the unit
 abbrev pub unit_symbol : List ℕ → Option Symbol
-unit_symbol text = option_map ToUnit (option_and_then unit_named (after_prefix (codes "unit:") text))
+unit_symbol text =
+    option_map ToUnit (option_and_then unit_named (after_prefix (codes "unit:") text))
 
 -- how many rows a shift goes down: an integer of 64 bits
 abbrev pub periods_of : List ℕ → Option ℤ

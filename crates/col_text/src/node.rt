@@ -6,6 +6,7 @@ ghost use Rattle.col_text.specs.Symbols.{
   binary_symbol,
   cast_symbol,
   cast_symbol_by,
+  hash,
   hash_parts,
   input_symbol,
   left_symbol,
@@ -115,7 +116,7 @@ fn binary(token: &[u8]) -> Option<Node>
 }
 
 fn hash_at(token: &[u8]) -> Option<usize>
-    ensures at { result ≡ position (λ byte. nat_eq byte 35) token.now }
+    ensures at { result ≡ position (λ byte. nat_eq byte hash) token.now }
     ensures within { IfSome result (λ at. at < length token.now) }
 {
     token.iter().position(|byte| *byte == b'#')
