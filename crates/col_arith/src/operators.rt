@@ -7,7 +7,7 @@ ghost use Rattle.col_model.specs.OperatorTable.{operator_rule, sum_rule, differe
 ghost use Rattle.col_model.specs.OperatorTable.{rest_rule};
 ghost use Rattle.col_arith.specs.OperatorRow.{rule_of, IsProper, IsProperOperand, FitsTypes};
 
-use col_model::{UnitChange, unit_change};
+use col_model::{UnitChange, ticks_per_day as day_in_ticks, unit_change};
 use col_types::{BinOp, DataType, TimeUnit, TimeZone, get_time_units};
 
 /// How two values meet.
@@ -55,7 +55,7 @@ pub(crate) struct Rule {
 fn ticks_per_day(unit: TimeUnit) -> u64
     ensures value { result ≡ ticks_per_day unit }
 {
-    86_400_000_000_000 / u64::from(unit.nanos_per_tick())
+    day_in_ticks(unit) as u64
 }
 
 fn same_zone(left: &Option<TimeZone>, right: &Option<TimeZone>) -> bool

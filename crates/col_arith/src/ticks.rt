@@ -14,7 +14,7 @@ ghost use Rattle.col_arith.specs.OperatorRow.{date_values, tick_values};
 
 use crate::operators::{Meeting, Operand, OperatorRow};
 use col_kernel::Word;
-use col_model::{UnitChange, datetime_by, duration_by};
+use col_model::{UnitChange, datetime_by, duration_by, fitting_day};
 
 /// The sum or the difference, wrapped to 64 bits.
 fn joined(meeting: Meeting, left: i64, right: i64) -> i64
@@ -32,11 +32,7 @@ fn as_date(days: i64) -> Option<i64>
     ensures value { result ≡ fitting_value date_values days }
     ensures fits { is_tick_in date_values result ≡ true }
 {
-    if i64::from(i32::MIN) <= days && days <= i64::from(i32::MAX) {
-        Some(days)
-    } else {
-        None
-    }
+    fitting_day(days)
 }
 
 /// What a division leaves, with the divisor's sign; none for a divisor 0.
