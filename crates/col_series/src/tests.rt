@@ -327,11 +327,11 @@ fn units_change_and_wrap(rt: HostRuntime) {
     }
     let refusal = PolarsError::Types {
         op: OpName::Coerce,
-        left: Kind::Date,
-        right: Kind::Date,
+        left: Kind::Time,
+        right: Kind::Time,
     };
     assert_eq!(rt;
-        in_unit(rt.alloc(), &DataType::Date, MILLIS, 0),
+        in_unit(rt.alloc(), &DataType::Time, MILLIS, 5),
         Err(refusal)
     );
 }
