@@ -1,14 +1,13 @@
 // The rows of the operator table.
 ghost use Rattle.std.specs.Prelude.{◌≡◌, Some, IfSome};
 ghost use Rattle.col_types.specs.TimeUnit.{ticks_per_day};
-ghost use Rattle.col_types.specs.DataType.{same_zone};
 ghost use Rattle.col_model.specs.UnitChange.{unit_change};
 ghost use Rattle.col_model.specs.OperatorTable.{operator_rule, sum_rule, difference_rule};
 ghost use Rattle.col_model.specs.OperatorTable.{rest_rule};
 ghost use Rattle.col_arith.specs.OperatorRow.{rule_of, IsProper, IsProperOperand, FitsTypes};
 
 use col_model::{UnitChange, ticks_per_day as day_in_ticks, unit_change};
-use col_types::{BinOp, DataType, TimeUnit, TimeZone, get_time_units};
+use col_types::{BinOp, DataType, TimeUnit, get_time_units, same_zone};
 
 /// How two values meet.
 #[derive(Clone, Copy)]
@@ -56,16 +55,6 @@ fn ticks_per_day(unit: TimeUnit) -> u64
     ensures value { result ≡ ticks_per_day unit }
 {
     day_in_ticks(unit) as u64
-}
-
-fn same_zone(left: &Option<TimeZone>, right: &Option<TimeZone>) -> bool
-    ensures same { result ≡ same_zone left.now right.now }
-{
-    match (left, right) {
-        (None, None) => true,
-        (Some(left), Some(right)) => left.as_str() == right.as_str(),
-        _ => false,
-    }
 }
 
 /// A moment in another unit.

@@ -145,7 +145,8 @@ fn same_unit(left: TimeUnit, right: TimeUnit) -> bool
     left.nanos_per_tick() == right.nanos_per_tick()
 }
 
-pub(crate) fn same_zone(left: &Option<TimeZone>, right: &Option<TimeZone>) -> bool
+/// Whether the zones are equal, or both are none.
+pub fn same_zone(left: &Option<TimeZone>, right: &Option<TimeZone>) -> bool
     ensures same { result ≡ same_zone left.now right.now }
 {
     match (left, right) {

@@ -20,7 +20,7 @@ mod zone_names;
 mod zone_text;
 
 pub use cast_options::{CastOptions, CastOptionsImpl};
-pub use data_type::{DataType, Kind};
+pub use data_type::{DataType, Kind, same_zone};
 pub use error::{PolarsError, PolarsResult};
 pub use field::Field;
 pub use is_sorted::IsSorted;
