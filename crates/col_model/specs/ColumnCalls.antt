@@ -34,8 +34,8 @@ slots_refusal (Some row) rows = Some (errors.Fit row)
 slots_refusal None rows = if nat_lt rows (2 ^ 32) then None else Some (errors.TooLong rows)
 
 -- the column of these slots, or why there is none
-abbrev pub column_of : List ℕ → DataType → List (Option ℤ) → Result Column PolarsError
-column_of name dtype slots =
+abbrev pub column_from : List ℕ → DataType → List (Option ℤ) → Result Column PolarsError
+column_from name dtype slots =
     unless_refused (slots_refusal (first_unfit dtype slots) (length slots))
     (record { name = name; dtype = dtype; slots = map integer_slot slots; flag = Not })
 

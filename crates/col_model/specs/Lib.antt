@@ -3,6 +3,7 @@ pub mod Formula
 pub mod Value
 pub mod Sortedness
 pub mod Column
+pub mod Chunked
 pub mod Broadcast
 pub mod UnitChange
 pub mod CastTable

@@ -5,7 +5,7 @@ ghost use Rattle.col_types.specs.PolarsError.{Gives};
 ghost use Rattle.col_types.specs.declared.cast_options.CastOptions.TheVariants.{Strict, NonStrict};
 ghost use Rattle.col_model.specs.Value.{integer_slot};
 ghost use Rattle.col_model.specs.Column.{IsValidColumn, is_built_type};
-ghost use Rattle.col_model.specs.ColumnCalls.{column_of, cast_of, is_built_target};
+ghost use Rattle.col_model.specs.ColumnCalls.{column_from, cast_of, is_built_target};
 ghost use Rattle.col_model.specs.OperatorCalls.{in_unit_of, shifted};
 ghost use Rattle.col_series.specs.Seen.{value_seen, slot_seen, seen_by, seen_at};
 ghost use Rattle.col_series.specs.Slots.{is_fit, ticks_column};
@@ -57,7 +57,7 @@ impl Series {
         slots: &[Option<i128>],
     ) -> PolarsResult<Series>
         requires built_type { is_built_type dtype.now ≡ true }
-        ensures column { Gives result (column_of name dtype.now slots.now) }
+        ensures column { Gives result (column_from name dtype.now slots.now) }
     {
         match first_unfit(dtype, slots) {
             Some(row) => return Err(PolarsError::Fit { row }),

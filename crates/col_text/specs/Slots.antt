@@ -5,7 +5,7 @@ use Rattle.std.specs.Result.{result_ok}
 use Rattle.std.specs.Str.{bytes_eq}
 use Rattle.col_types.specs.declared.data_type.DataType.{DataType}
 use Rattle.col_model.specs.Column.{Column}
-use Rattle.col_model.specs.ColumnCalls.{column_of}
+use Rattle.col_model.specs.ColumnCalls.{column_from}
 use Rattle.col_text.specs.Numbers.{integer_of}
 use Rattle.col_text.specs.Parts.{is_graphic}
 use Rattle.col_text.specs.Types.{column_dtype}
@@ -43,7 +43,7 @@ slots_after slots token =
 -- a column, where each slot is a value of the type
 abbrev pub column_with : List ℕ → List (List ℕ) → DataType → Option Column
 column_with name slots dtype =
-    option_and_then (λ values. result_ok (column_of name dtype values)) (slots_of slots)
+    option_and_then (λ values. result_ok (column_from name dtype values)) (slots_of slots)
 
 -- the column that stands behind `col`, with the zones handed in before: a name, a type, and slots
 abbrev pub column_line : List (List ℕ) → List (List ℕ) → Option Column
