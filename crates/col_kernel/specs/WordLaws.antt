@@ -1,5 +1,7 @@
 -- The laws of the trait `Word`, proved for the signed and the unsigned word of each width.
-use Rattle.std.specs.Prelude.{◌≡◌, ◌+◌, ◌-◌, ◌*◌, ◌/◌, ◌%◌, ◌^◌, ◌<◌, ◌≤◌, ◌+ℤ◌, ◌-ℤ◌, ◌*ℤ◌, ◌&&◌, ℕ, ℤ, zero, suc, pos, negsuc, neg_ℤ, true, cond, FitsSigned, unsigned_abs}
+use Rattle.std.specs.Prelude.{◌≡◌, ◌+◌, ◌-◌, ◌*◌, ◌/◌, ◌%◌, ◌^◌, ◌<◌, ◌≤◌, ◌+ℤ◌, ◌-ℤ◌, ◌*ℤ◌, ◌&&◌}
+use Rattle.std.specs.Prelude.{ℕ, ℤ, zero, suc, pos, negsuc, neg_ℤ, true, cond, FitsSigned}
+use Rattle.std.specs.Prelude.{unsigned_abs}
 use Rattle.std.specs.Int.{Width, w8, w16, w32, w64, w128, FitsUnsignedBits, cast_signed}
 use Rattle.std.specs.Ordering.{int_cmp, nat_cmp}
 use Rattle.std.proofs.Common.{lt_of_lt_of_le, refl, ap, sym, ◌∙◌, ◌⊎◌, arith, inl, inr, mod-lt}
@@ -15,7 +17,8 @@ use mir.Val.{bits, hbits}
 use Rattle.num_traits.specs.Laws.{bit_len, wrap_unsigned}
 use Rattle.num_traits.specs.Ints.{signed-wrap, signed-wrap_fits, unsigned-wrap, unsigned-wrap_fits}
 use Rattle.col_kernel.specs.Congruence.{IsCongruent}
-use Rattle.col_model.specs.Arithmetic.{WordType, Signed, Unsigned, Interval, is_within, word_bits, word_values, wrapped_value}
+use Rattle.col_model.specs.Arithmetic.{WordType, Signed, Unsigned, Interval, is_within, word_bits}
+use Rattle.col_model.specs.Arithmetic.{word_values, wrapped_value}
 
 -- ---- the range of a word, in std's words
 

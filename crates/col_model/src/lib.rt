@@ -7,7 +7,8 @@ mod ticks;
 pub use col_types::{CastOptions, TimeUnit};
 pub use laws::{
     finer_and_back, floor_rounds_down, known_casts, known_datetimes, known_durations, known_joins,
-    trunc_rounds_towards_zero, unit_casts_compose,
+    known_scalars, known_unit_changes, same_type_comes_first, targets_settle_once,
+    trunc_rounds_towards_zero, unit_casts_compose, words_hold_values,
 };
 pub use ticks::{
     UnitChange, datetime_by, datetime_in_unit, day_in_unit, day_of, duration_by, duration_in_unit,
