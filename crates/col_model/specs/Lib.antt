@@ -15,3 +15,4 @@ pub mod OperatorCalls
 pub mod Laws
 pub mod UnitLaws
 pub mod TableLaws
+pub mod IntervalLaws

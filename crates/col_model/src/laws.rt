@@ -3,6 +3,9 @@ ghost use Rattle.std.specs.Prelude.{ℕ, ℤ, ◌<◌};
 ghost use Rattle.col_model.specs.Laws.{RoundsDown, RoundsTowardsZero};
 ghost use Rattle.col_types.specs.declared.data_type.DataType.{Duration};
 ghost use Rattle.col_model.specs.Laws.{KnownDatetimes, KnownDurations, KnownCasts, KnownJoins};
+ghost use Rattle.col_model.specs.Arithmetic.{WordType, wrapped_value};
+ghost use Rattle.col_model.specs.IntervalLaws.{DivisionsRoundDown, TruncatesDivisions};
+ghost use Rattle.col_model.specs.IntervalLaws.{DividesByPositive, IsKeptOf, IntervalsHold};
 ghost use Rattle.col_model.specs.UnitLaws.{ComesBack, IsOneCast, is_no_coarser, is_no_finer};
 ghost use Rattle.col_model.specs.UnitLaws.{moments, clock_unit};
 ghost use Rattle.col_types.specs.declared.data_type.DataType.{DataType};
@@ -67,7 +70,8 @@ pub fn words_hold_values()
 
 /// A cast to the same type keeps each slot, and other pairs go by the table.
 pub fn same_type_comes_first()
-    ensures first { (from target : DataType) (options : CastOptions) → SameTypeFirst from target options }
+    ensures first { (from target : DataType) (options : CastOptions) →
+        SameTypeFirst from target options }
 {}
 
 /// A settled target leaves nothing to settle, and what decimals leave open, by hand.
@@ -84,4 +88,30 @@ pub fn known_scalars()
 /// Changes of a column's unit, by hand.
 pub fn known_unit_changes()
     ensures values { KnownUnitChanges }
+{}
+
+/// The quotient rounded down is the greatest integer whose multiple by the divisor doesn't pass
+/// the dividend, seen in the divisor's direction, and the rest lies between 0 and the divisor.
+pub fn divisions_round_down()
+    ensures law { DivisionsRoundDown }
+{}
+
+/// The quotient rounded towards zero turns its sign with either side.
+pub fn divisions_truncate()
+    ensures law { TruncatesDivisions }
+{}
+
+/// The quotients by a positive number are those by an integer.
+pub fn divisions_by_positive()
+    ensures law { (x : ℤ) (k : ℕ) → DividesByPositive x k }
+{}
+
+/// A word keeps an integer of its own, which differs by a multiple of 2 to its width.
+pub fn words_keep()
+    ensures law { (word : WordType) (x : ℤ) → IsKeptOf word x (wrapped_value word x) }
+{}
+
+/// A formula that has an interval loses no value, wraps none, and gives none outside it.
+pub fn intervals_hold()
+    ensures law { IntervalsHold }
 {}
