@@ -1,5 +1,5 @@
-//! Cases by hand: that each call succeeds, and what every word does at its ends. The clauses say the
-//! rest of every word; values of the formulas and of scales stand as laws of `col_model`.
+//! Cases by hand: that each call succeeds, and what every word does at its ends. The clauses say
+//! the rest; values of the formulas and of scales stand as laws of `col_model`.
 
 use crate::*;
 use std::alloc::AllocError;
