@@ -61,7 +61,7 @@ pub record IsDay (day : ℕ) : Type 0 where
 -- a day has so many ticks of so many nanoseconds
 pub record IsWholeDay (day nanos : ℕ) : Type 0 where
   pub whole : day * nanos ≡ nanos_per_day
-  pub day : IsDay day
+  pub proper : IsDay day
 
 -- a rule divides by no zero, and its numbers fit into words
 abbrev pub IsProper : TickRule → Type 0

@@ -1,6 +1,7 @@
 // The rules of the tables, chosen once for a column, and each tick under a rule.
-ghost use Rattle.std.specs.Prelude.{◌≡◌, ◌<◌, ◌^◌, Some, length, IfOk};
+ghost use Rattle.std.specs.Prelude.{◌≡◌, ◌<◌, ◌^◌, ◌≤ℤ◌, ◌<ℤ◌, pos, Some, length, IfOk};
 ghost use Rattle.std.specs.Option.{option_and_then, option_or};
+ghost use Rattle.col_model.specs.Arithmetic.{floor_mod};
 ghost use Rattle.col_series.specs.TickRule.{is_same, IsDay, IsWholeDay, IsProper};
 ghost use Rattle.col_series.specs.TickRule.{changed_tick, changed_ticks};
 ghost use Rattle.col_series.specs.TickRule.{lost_at, first_lost_tick};
@@ -54,12 +55,22 @@ fn day_of(tick: i64, day: u64, options: CastOptions) -> Option<i64>
     }
 }
 
+/// The ticks of a moment since its day began.
+fn ticks_of_day(tick: i64, day: u64) -> i64
+    requires day { IsDay day }
+    ensures value { result ≡ floor_mod tick (pos day) }
+    ensures low { pos 0 ≤ℤ result }
+    ensures below { result <ℤ pos day }
+{
+    tick.rem_euclid(day as i64)
+}
+
 /// The nanoseconds of a moment since its day began.
 fn time_of(tick: i64, day: u64, nanos: u32) -> i64
     requires day { IsWholeDay day nanos }
     ensures value { Some result ≡ changed_tick (TickRule.Time day nanos) tick }
 {
-    tick.rem_euclid(day as i64) * i64::from(nanos)
+    ticks_of_day(tick, day) * i64::from(nanos)
 }
 
 /// A tick under the rule.

@@ -1,7 +1,10 @@
-use Rattle.std.proofs.Common.{◌≡◌, ◌++◌, map, drop}
-use Rattle.std.specs.Option.{option_and_then}
-use Rattle.col_series.specs.TickRow.{changed_tick}
-use Rattle.col_series.proofs.tick_row.changed_slots.Given as goal
+use Rattle.std.proofs.Common.{◌≡◌, ◌++◌, drop}
+use Rattle.std.specs.Option.{option_or}
+use Rattle.col_series.specs.TickRule.{changed_ticks, first_lost_tick}
+use Rattle.col_series.proofs.tick_rule.changed_slots.Given as goal
 
-abbrev pub invariant-loop-slot : goal.invariant-loop-slot
-invariant-loop-slot l = l.changed.items ++ map (option_and_then (changed_tick l.row)) (drop l.slot-index l.slots) ≡ map (option_and_then (changed_tick l.row)) l.slots
+abbrev pub invariant-loop-row : goal.invariant-loop-row
+invariant-loop-row l = record {
+  slots : l.changed.items ++ changed_ticks l.rule (drop l.row l.slots) ≡ changed_ticks l.rule l.slots;
+  lost : option_or l.lost (first_lost_tick l.rule l.row (drop l.row l.slots)) ≡ first_lost_tick l.rule 0 l.slots;
+}
