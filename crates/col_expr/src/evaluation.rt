@@ -102,7 +102,8 @@ fn input_column(alloc: Global, inputs: &Inputs, index: u32, node: u32) -> Result
     ensures found { IsFound (columns_of inputs.now) (One node) (Input index) result }
 {
     match inputs.get(index) {
-        Some(column) => at_node(column.try_clone(alloc), node),
+        // a clone is refused for want of memory alone
+        Some(column) => column.try_clone(alloc).map_err(|_| EvalError::NoMemory),
         None => Err(EvalError::NoColumn {
             node,
             index,
