@@ -13,3 +13,6 @@ pub mod ColumnCalls
 pub mod OperatorCalls
 pub mod Laws
 pub mod UnitLaws
+pub mod ChunkCalls
+pub mod Words
+pub mod Items
