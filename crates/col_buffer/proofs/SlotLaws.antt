@@ -1,9 +1,11 @@
 -- Laws of slots that are kept as values and bits.
-use Rattle.std.specs.Prelude.{◌≡◌, ◌+◌, ◌≤◌, ◌<◌, ℕ, ℤ, Bool, List, [], ◌∷◌, ◌++◌, Option, Some, None, length, take, drop, slice_index_or, zero, suc}
+use Rattle.std.specs.Prelude.{◌≡◌, ◌+◌, ◌≤◌, ◌<◌, ℕ, ℤ, Bool, count_by, is_none, is_some, if◌then◌else◌, List, [], ◌∷◌, ◌++◌, Option, Some, None, length, take, drop, slice_index_or, zero, suc}
 use Rattle.std.proofs.Common.{refl, subst, ap, sym, ◌∙◌, arith, add-zero, get_or, length-take, length-drop}
 use Rattle.std.proofs.lemmas.List.{get_or-take, get_or-drop}
 use Rattle.std.specs.Prelude.{◌≢◌, ◌*◌, ◌/◌, ◌%◌, ◌^◌, ◌==◌, slice_set}
 use Rattle.std.specs.Int.{bit_at}
+use Rattle.std.specs.List.{list_all}
+use Rattle.std.proofs.lemmas.List.Sums.{sum_by-cons}
 use Rattle.std.proofs.Common.{inl, inr, mod-lt, length-set, set-set, get_or-set_same, get_or-set_other}
 use Rattle.std.proofs.lemmas.Bool.{cases_eq, cases_lt}
 use Rattle.std.proofs.lemmas.Nat.{div-add-mod', div_below}
@@ -355,5 +357,31 @@ masked-range {T} reading old new from start xs ys a =
             let a : i + 1 + k ≡ i + suc k = omega arith in
             let b : j + suc k ≡ j + 1 + k = omega arith in
             ap (valid_at new) a ∙ same (suc k) (omega arith) ∙ ap (valid_at from) b))
+
+-- each slot of values passes a test that each of their integers and null pass
+pub all-masked : {T : Type 0} (reading : T → ℤ) (test : Option Value → Bool) → test None ≡ true → ((x : T) → test (Some (whole (reading x))) ≡ true)
+    → (words : Option (List ℕ)) (i : ℕ) (xs : List T) → list_all test (masked reading words i xs) ≡ true
+all-masked reading test none some words i [] = refl
+all-masked reading test none some words i (x ∷ xs) =
+    ap (λ (b : Bool). b && list_all test (masked reading words (i + 1) xs)) (each (valid_at words i)) ∙ all-masked reading test none some words (i + 1) xs
+  where
+    each : (b : Bool) → test (slot_if reading b x) ≡ true
+    each true = some x
+    each false = none
+
+-- nulls are the places that aren't valid
+pub nulls-masked : {T : Type 0} (reading : T → ℤ) (words : Option (List ℕ)) (i : ℕ) (xs : List T) → count_by is_none (masked reading words i xs) + valid_count words i (length xs) ≡ length xs
+nulls-masked reading words i [] = refl
+nulls-masked reading words i (x ∷ xs) = one (valid_at words i) (nulls-masked reading words (i + 1) xs)
+  where
+    one : (b : Bool) → count_by is_none (masked reading words (i + 1) xs) + valid_count words (i + 1) (length xs) ≡ length xs
+        → count_by is_none (slot_if reading b x ∷ masked reading words (i + 1) xs) + ((if b then 1 else 0) + valid_count words (i + 1) (length xs)) ≡ suc (length xs)
+    one true e = omega (arith, sum_by-cons (λ s. if is_none s then 1 else 0) (slot_if reading true x) (masked reading words (i + 1) xs), e)
+    one false e = omega (arith, sum_by-cons (λ s. if is_none s then 1 else 0) (slot_if reading false x) (masked reading words (i + 1) xs), e)
+
+-- whether the slot of a value is valid
+pub valid-slot : {T : Type 0} (reading : T → ℤ) (b : Bool) (x : T) → is_some (slot_if reading b x) ≡ b
+valid-slot reading true x = refl
+valid-slot reading false x = refl
 
 pub ruleset slot_laws = (length-masked, length-part, masked-append, masked-push, masked-part, Reaches-le, repeated_are)

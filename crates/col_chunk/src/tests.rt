@@ -1,0 +1,1 @@
+//! Small columns by hand.
