@@ -1,3 +1,5 @@
 pub mod Pieces
 pub mod WordLaws
 pub mod MovedLaws
+pub mod FoldLaws
+pub mod WrapLaws

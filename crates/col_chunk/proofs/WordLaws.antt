@@ -1,7 +1,9 @@
 -- The laws by which chunks of words close.
 use Rattle.std.specs.Prelude.{◌≡◌, ◌+◌, ◌≤◌, ◌<◌, ℕ, zero, suc, ℤ, List, [], ◌∷◌, ◌++◌, Bool, Option, Some, None, length, take, drop, is_some, is_none, count_by, slice_index_or, Result, Ok, Err, OnOk}
 use Rattle.std.proofs.Common.{refl, subst, ap, sym, ◌∙◌, arith, add-zero, length-take, length-drop}
-use Rattle.col_model.specs.Value.{Value}
+use Rattle.std.proofs.lemmas.List.{length-map}
+use Rattle.col_chunk.specs.Chunks.{word_slots}
+use Rattle.col_model.specs.Value.{Value, whole}
 use Rattle.col_model.specs.ChunkCalls.{null_count}
 use Rattle.col_buffer.specs.Validity.{AddsRange, masked, slot_if, valid_at, valid_count}
 use Rattle.col_buffer.proofs.SlotLaws.{length-masked, length-part, masked-append, masked-push, masked-part, masked-range, nulls-masked, valid-slot, Reaches-le, repeated_are}
@@ -45,5 +47,15 @@ nulls_in_part {T} reading words values o m nulls slots room e counted =
 pub on_ok_both : {T E P Q R : Type 0} (r : Result T E) → (P → Q → R) → OnOk r P → OnOk r Q → OnOk r R
 on_ok_both (Ok x) f p q = f p q
 on_ok_both (Err e) f p q = tt
+
+-- words without bits
+pub plain-slots : {T : Type 0} (reading : T → ℤ) (i : ℕ) (xs : List T) → masked reading None i xs ≡ word_slots reading xs
+plain-slots reading i [] = refl
+plain-slots reading i (x ∷ xs) = ap (λ (zs : List (Option Value)). Some (whole (reading x)) ∷ zs) (plain-slots reading (i + 1) xs)
+
+pub length-word_slots : {T : Type 0} (reading : T → ℤ) (xs : List T) → length (word_slots reading xs) ≡ length xs
+length-word_slots reading xs = length-map xs (λ x. Some (whole (reading x)))
+
+pub ruleset plain_laws = (plain-slots, length-word_slots)
 
 pub ruleset word_laws = (length-masked, length-part, masked-append, masked-push, masked-part, Reaches-le, repeated_are)

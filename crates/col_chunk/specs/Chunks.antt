@@ -1,7 +1,7 @@
 -- The slots that a list of chunks has, and slots that are moved.
-use Rattle.std.specs.Prelude.{◌-◌, ◌++◌, ℕ, ℤ, pos, negsuc, suc, min, List, Option, None, length, map, take, drop, replicate}
+use Rattle.std.specs.Prelude.{◌-◌, ◌++◌, ℕ, ℤ, pos, negsuc, suc, min, List, Option, Some, None, length, map, take, drop, replicate}
 use Rattle.std.specs.List.{flat_map}
-use Rattle.col_model.specs.Value.{Value}
+use Rattle.col_model.specs.Value.{Value, whole}
 
 -- the slots of chunks, one after another
 abbrev pub joined : {C : Type 0} → (C → List (Option Value)) → List C → List (Option Value)
@@ -19,3 +19,7 @@ moved_slots (pos k) slots =
 moved_slots (negsuc k) slots =
     let distance = min (suc k) (length slots) in
     take (length slots - distance) (drop distance slots) ++ replicate distance None
+
+-- words as slots, each of them valid
+abbrev pub word_slots : {T : Type 0} → (T → ℤ) → List T → List (Option Value)
+word_slots reading words = map (λ word. Some (whole (reading word))) words
