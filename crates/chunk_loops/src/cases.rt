@@ -6,7 +6,9 @@ use col_chunk::Int64Chunked;
 use std::alloc::{AllocError, Global};
 
 const ROWS: [usize; 6] = [0, 1, 63, 64, 65, 129];
+
 const NULLS: [Nulls; 3] = [Nulls::None, Nulls::All, Nulls::EverySecond];
+
 const SHAPES: [Shape; 5] = [
     Shape::OneChunk,
     Shape::ChunksOfOne,
@@ -69,7 +71,12 @@ fn parts_hold(
         "split_at",
     )?;
     let down = column.shift(alloc, 1)?;
-    let moved = with_nulls(alloc, 1, some_of(slots, 0, slots.len().saturating_sub(1)), 0)?;
+    let moved = with_nulls(
+        alloc,
+        1,
+        some_of(slots, 0, slots.len().saturating_sub(1)),
+        0,
+    )?;
     expect(
         slots.is_empty() || has(&down, moved.as_slice()),
         case,
@@ -151,11 +158,7 @@ fn appending_holds(
     expect(has(&extended, twice.as_slice()), case, "extend")?;
     let mut owned = column.try_clone(alloc)?;
     let taken = owned.append_owned(column.try_clone(alloc)?).is_ok();
-    expect(
-        taken && has(&owned, twice.as_slice()),
-        case,
-        "append_owned",
-    )?;
+    expect(taken && has(&owned, twice.as_slice()), case, "append_owned")?;
     extended.shrink_to_fit()?;
     expect(has(&extended, twice.as_slice()), case, "shrink_to_fit")?;
     let mut written = column.try_clone(alloc)?;

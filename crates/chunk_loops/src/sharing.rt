@@ -6,7 +6,9 @@ use col_types::PlSmallStr;
 use std::alloc::Global;
 
 const ROWS: usize = 1_000_000;
+
 const PARTS: u32 = 4_000;
+
 const WRITES: u32 = 200_000;
 
 /// How many reads of parts and writes were right.

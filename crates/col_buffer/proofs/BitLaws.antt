@@ -49,6 +49,7 @@ joined_high low high skip j fits some less inside past =
     let b : bit_at (high * 2 ^ (64 - skip) % 2 ^ 64) j ≡ bit_at high (skip + j - 64) = shifted_up_high high (64 - skip) j (omega arith) inside ∙ ap (bit_at high) is in
     bit_at_or (low / 2 ^ skip) (high * 2 ^ (64 - skip) % 2 ^ 64) j
     ∙ omega (arith, a, b)
+
 -- the lowest bits of a word that is shifted up and down again
 pub low_again : (word kept j : ℕ) → 0 < kept → kept < 64 → j < kept → bit_at (word * 2 ^ (64 - kept) % 2 ^ 64) (64 - kept + j) ≡ bit_at word j
 low_again word kept j some inside less =
@@ -147,10 +148,10 @@ push-across old cut new place word at kept mid last x c is some inside room read
     adds_across old new place word at kept mid last is some inside
     (omega (arith, ap length made, length-append (slice_set cut at mid) (last ∷ [])))
     (λ q less.
-        let apart : q ≢ at = λ e. absurd (omega arith) in
-        let first : q < length (slice_set cut at mid) = omega arith in
-        ap (λ (l : List ℕ). get_or l q 0) made ∙ get_or_append_left (slice_set cut at mid) (last ∷ []) 0 q first
-        ∙ get_or-set_other cut at q mid 0 apart ∙ ap (λ (l : List ℕ). get_or l q 0) c ∙ get_or-take (at + 1) old q 0 (omega arith))
+    let apart : q ≢ at = λ e. absurd (omega arith) in
+    let first : q < length (slice_set cut at mid) = omega arith in
+    ap (λ (l : List ℕ). get_or l q 0) made ∙ get_or_append_left (slice_set cut at mid) (last ∷ []) 0 q first
+    ∙ get_or-set_other cut at q mid 0 apart ∙ ap (λ (l : List ℕ). get_or l q 0) c ∙ get_or-take (at + 1) old q 0 (omega arith))
     (ap (λ (l : List ℕ). get_or l at 0) made ∙ get_or_append_left (slice_set cut at mid) (last ∷ []) 0 at there ∙ get_or-set_same cut at mid 0 here)
     (ap (λ (l : List ℕ). get_or l (at + 1) 0) made ∙ get_or_push (slice_set cut at mid) last 0 (at + 1) set_long)
     (λ j less. low j less ∙ ap (λ (n : ℕ). bit_at n j) old_at)
@@ -220,9 +221,9 @@ module _ (words : Option (List ℕ)) where
       let parts : word / 2 ^ 1 * 2 ^ 1 + word % 2 ^ 1 ≡ word = shr_split word 1 in
       let half : word / 2 < 2 ^ k = omega (arith, pow-suc k) in
       let rest = valid_count-ones k (i + 1) (word / 2) half (λ j below.
-          let is : i + suc j ≡ i + 1 + j = omega arith in
-          let at : 1 + j ≡ suc j = omega arith in
-          ap (λ (n : ℕ). n == 1) (shifted_down word 1 j ∙ ap (bit_at word) at) ∙ same (suc j) (omega arith) ∙ ap (valid_at words) is) in
+      let is : i + suc j ≡ i + 1 + j = omega arith in
+      let at : 1 + j ≡ suc j = omega arith in
+      ap (λ (n : ℕ). n == 1) (shifted_down word 1 j ∙ ap (bit_at word) at) ∙ same (suc j) (omega arith) ∙ ap (valid_at words) is) in
       let first : valid_at words i ≡ (word % 2 == 1) = ap (valid_at words) (sym (add-zero i)) ∙ sym (same 0 (omega arith)) ∙ ap (λ (n : ℕ). n % 2 == 1) (whole_word word) in
       ap (λ (b : Bool). (if b then 1 else 0) + valid_count words (i + 1) k) first
       ∙ ap (λ (n : ℕ). (if word % 2 == 1 then 1 else 0) + n) rest

@@ -354,9 +354,9 @@ masked-range {T} reading old new from start xs ys a =
         let first : valid_at new i ≡ valid_at from j = ap (valid_at new) (sym (add-zero i)) ∙ same 0 (omega arith) ∙ ap (valid_at from) (add-zero j) in
         ap (λ (b : Bool). slot_if reading b z ∷ masked reading new (i + 1) zs) first
         ∙ ap (λ (ss : List (Option Value)). slot_if reading (valid_at from j) z ∷ ss) (moved (i + 1) (j + 1) zs (λ k less.
-            let a : i + 1 + k ≡ i + suc k = omega arith in
-            let b : j + suc k ≡ j + 1 + k = omega arith in
-            ap (valid_at new) a ∙ same (suc k) (omega arith) ∙ ap (valid_at from) b))
+        let a : i + 1 + k ≡ i + suc k = omega arith in
+        let b : j + suc k ≡ j + 1 + k = omega arith in
+        ap (valid_at new) a ∙ same (suc k) (omega arith) ∙ ap (valid_at from) b))
 
 -- each slot of values passes a test that each of their integers and null pass
 pub all-masked : {T : Type 0} (reading : T → ℤ) (test : Option Value → Bool) → test None ≡ true → ((x : T) → test (Some (whole (reading x))) ≡ true)

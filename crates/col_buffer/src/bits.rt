@@ -66,7 +66,8 @@ fn joined_word(low: u64, high: u64, skip: usize) -> u64
     requires some { 0 < skip }
     requires inside { skip < 64 }
     ensures low { (j : ℕ) → skip + j < 64 → bit_at result j ≡ bit_at low (skip + j) }
-    ensures high { (j : ℕ) → j < 64 → 64 ≤ skip + j → bit_at result j ≡ bit_at high (skip + j - 64) }
+    ensures high { (j : ℕ) → j < 64 → 64 ≤ skip + j → bit_at result j
+        ≡ bit_at high (skip + j - 64) }
 {
     (low >> skip) | (high << (64 - skip))
 }

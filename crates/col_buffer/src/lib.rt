@@ -3,8 +3,6 @@
 
 mod bits;
 mod shared;
-#[cfg(test)]
-mod tests;
 mod validity;
 
 pub use bits::{count_set, is_set, word_from};

@@ -45,7 +45,8 @@ pub fn write_at<T: Copy>(
     value: T,
 ) -> Result<(), AllocError>
     requires inside { place < length values.old.value.items }
-    ensures ok { OnOk result (values.new.value.items ≡ slice_set values.old.value.items place value) }
+    ensures ok { OnOk result (values.new.value.items
+        ≡ slice_set values.old.value.items place value) }
     ensures err { OnErr result (values.new.value.items ≡ values.old.value.items) }
 {
     if let Some(own) = Rc::get_mut(values) {

@@ -23,7 +23,8 @@ pub fn is_valid(validity: &Option<Rc<Vec<u64>>>, place: usize) -> bool
 
 /// The words, where there are some.
 pub fn bits_of(validity: &Option<Rc<Vec<u64>>>) -> Option<&[u64]>
-    ensures words { option_map (λ words. words.now) result ≡ option_map (λ words. words.value.items) validity.now }
+    ensures words { option_map (λ words. words.now) result
+        ≡ option_map (λ words. words.value.items) validity.now }
 {
     match validity {
         None => None,
@@ -33,7 +34,8 @@ pub fn bits_of(validity: &Option<Rc<Vec<u64>>>) -> Option<&[u64]>
 
 /// The same words, in the same memory.
 pub fn share(validity: &Option<Rc<Vec<u64>>>) -> Result<Option<Rc<Vec<u64>>>, AllocError>
-    ensures words { IfOk result (λ copy. option_map (λ words. words.value.items) copy ≡ option_map (λ words. words.value.items) validity.now) }
+    ensures words { IfOk result (λ copy. option_map (λ words. words.value.items) copy
+        ≡ option_map (λ words. words.value.items) validity.now) }
 {
     match validity {
         None => Ok(None),
@@ -46,7 +48,8 @@ pub fn share_new(
     alloc: Global,
     validity: Option<Vec<u64>>,
 ) -> Result<Option<Rc<Vec<u64>>>, AllocError>
-    ensures words { IfOk result (λ shared. option_map (λ words. words.value.items) shared ≡ option_map (λ words. words.items) validity) }
+    ensures words { IfOk result (λ shared. option_map (λ words. words.value.items) shared
+        ≡ option_map (λ words. words.items) validity) }
 {
     match validity {
         None => Ok(None),
@@ -58,7 +61,8 @@ pub fn share_new(
 pub fn null_places(validity: Option<&[u64]>, offset: usize, len: usize) -> usize
     requires reach { Reaches (option_map (λ words. words.now) validity) (offset + len) }
     requires fits { offset + len ≤ usize.MAX }
-    ensures count { result + valid_count (option_map (λ words. words.now) validity.entry) offset len ≡ len }
+    ensures count { result + valid_count (option_map
+        (λ words. words.now) validity.entry) offset len ≡ len }
 {
     match validity {
         None => 0,
@@ -70,7 +74,8 @@ pub fn null_places(validity: Option<&[u64]>, offset: usize, len: usize) -> usize
 pub fn word_at(validity: Option<&[u64]>, place: usize, end: usize) -> u64
     requires inside { place < end }
     requires reach { Reaches (option_map (λ words. words.now) validity) end }
-    ensures bits { (j : ℕ) → j < 64 → place + j < end → (bit_at result j == 1) ≡ valid_at (option_map (λ words. words.now) validity.entry) (place + j) }
+    ensures bits { (j : ℕ) → j < 64 → place + j < end → (bit_at result j == 1)
+        ≡ valid_at (option_map (λ words. words.now) validity.entry) (place + j) }
 {
     let _ = end;
     match validity {
@@ -89,8 +94,10 @@ pub fn set_valid(
 ) -> Result<(), AllocError>
     requires inside { place < count }
     requires reach { Reaches (option_map (λ words. words.value.items) validity.old) count }
-    ensures ok { OnOk result (SetsValid (option_map (λ words. words.value.items) validity.old) (option_map (λ words. words.value.items) validity.new) count place valid) }
-    ensures err { OnErr result (option_map (λ words. words.value.items) validity.new ≡ option_map (λ words. words.value.items) validity.old) }
+    ensures ok { OnOk result (SetsValid (option_map (λ words. words.value.items) validity.old)
+        (option_map (λ words. words.value.items) validity.new) count place valid) }
+    ensures err { OnErr result (option_map (λ words. words.value.items) validity.new
+        ≡ option_map (λ words. words.value.items) validity.old) }
 {
     match validity {
         Some(words) => write_bit(alloc, words, place, valid),
@@ -138,7 +145,8 @@ pub fn add_valid(
 ) -> Result<(), AllocError>
     requires room { place < usize.MAX }
     requires reach { Reaches (option_map (λ words. words.items) validity.old) place }
-    ensures ok { OnOk result (AddsValid (option_map (λ words. words.items) validity.old) (option_map (λ words. words.items) validity.new) place valid) }
+    ensures ok { OnOk result (AddsValid (option_map (λ words. words.items) validity.old)
+        (option_map (λ words. words.items) validity.new) place valid) }
     ensures reach { Reaches (option_map (λ words. words.items) validity.new) place }
 {
     match validity {
@@ -165,7 +173,9 @@ pub fn add_range(
     requires start_fits { start + len ≤ usize.MAX }
     requires reach { Reaches (option_map (λ words. words.items) validity.old) place }
     requires from { Reaches (option_map (λ words. words.now) from) (start + len) }
-    ensures ok { OnOk result (AddsRange (option_map (λ words. words.items) validity.old) (option_map (λ words. words.items) validity.new) place (option_map (λ words. words.now) from.entry) start len) }
+    ensures ok { OnOk result (AddsRange (option_map (λ words. words.items) validity.old)
+        (option_map (λ words. words.items) validity.new) place (option_map
+        (λ words. words.now) from.entry) start len) }
     ensures reach { Reaches (option_map (λ words. words.items) validity.new) place }
 {
     match validity {
@@ -185,7 +195,8 @@ pub fn add_range(
 /// Words in which each of the first places is valid.
 fn all_valid(alloc: Global, count: usize) -> Result<Vec<u64>, AllocError>
     ensures reach { IfOk result (λ words. count ≤ 64 * length words.items) }
-    ensures valid { IfOk result (λ words. (j : ℕ) → j < count → valid_at (Some words.items) j ≡ valid_at None j) }
+    ensures valid { IfOk result (λ words. (j : ℕ) → j < count → valid_at (Some words.items) j
+        ≡ valid_at None j) }
 {
     let words = vec![in alloc; u64::MAX; count / 64 + 1]?;
     Ok(words)
@@ -203,7 +214,8 @@ fn append_bits(
     requires start_fits { start + len ≤ usize.MAX }
     requires reach { place ≤ 64 * length words.old.items }
     requires from { Reaches (option_map (λ words. words.now) from) (start + len) }
-    ensures ok { OnOk result (AddsRange (Some words.old.items) (Some words.new.items) place (option_map (λ words. words.now) from.entry) start len) }
+    ensures ok { OnOk result (AddsRange (Some words.old.items) (Some words.new.items) place
+        (option_map (λ words. words.now) from.entry) start len) }
     ensures reach { place ≤ 64 * length words.new.items }
 {
     for at in 0..len.div_ceil(64) {

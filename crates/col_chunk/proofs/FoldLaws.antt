@@ -1,7 +1,7 @@
 -- Folds over the integers of slots.
 use Rattle.std.specs.Prelude.{◌≡◌, ◌+◌, ◌-◌, ◌*◌, ◌≤◌, ◌<◌, ◌==◌, ◌^◌, ℕ, zero, suc, ℤ, min, Bool, true, false, List, [], ◌∷◌, ◌++◌, length, map, take, drop, fold, Option, Some, None, if◌then◌else◌}
 use Rattle.std.specs.Int.{bit_at}
-use Rattle.std.specs.List.{filter_map, flat_map}
+use Rattle.std.specs.List.{filter_map, flat_map, reduce}
 use Rattle.std.proofs.Common.{refl, ap, sym, ◌∙◌, arith, inl, inr, add-zero, get_or, length-take, length-drop}
 use Rattle.std.proofs.lemmas.Bool.{cases_lt}
 use Rattle.std.proofs.lemmas.List.{drop_more, drop_all, drop-drop, take-append-drop}
@@ -112,3 +112,21 @@ chunks-step slots f chunks i chunk total next all h e made whole =
     ∙ ap (fold f total) (sym (filter_map-append integer_in (slots chunk) rest))
     ∙ ap (λ (ss : List (Option Value)). fold f total (integers_of ss)) (sym (pieces-from slots chunks i chunk h e))
     ∙ whole
+
+-- the first valid slot, and what is behind it
+pub reduce-found : {C : Type 0} (slots : C → List (Option Value)) (f : ℤ → ℤ → ℤ) (chunks : List C) (i : ℕ) (chunk : C) (first total result : ℤ) (rest : List (Option Value)) → i < length chunks → chunk ≡ get_or chunks i chunk
+    → integers_of (slots chunk) ≡ first ∷ integers_of rest → total ≡ fold f first (integers_of rest) → result ≡ fold f total (integers_of (flat_map slots (drop (i + 1) chunks)))
+    → integers_of (flat_map slots chunks) ≡ integers_of (flat_map slots (drop i chunks)) → Some result ≡ reduce f (integers_of (flat_map slots chunks))
+reduce-found slots f chunks i chunk first total result rest h e found made done none =
+    let behind : List (Option Value) = flat_map slots (drop (i + 1) chunks) in
+    ap (λ (z : ℤ). Some z) (done ∙ ap (λ (z : ℤ). fold f z (integers_of behind)) made ∙ sym (fold-append f first (integers_of rest) (integers_of behind)))
+    ∙ ap (reduce f) (ap (λ (zs : List ℤ). zs ++ integers_of behind) (sym found) ∙ sym (filter_map-append integer_in (slots chunk) behind)
+    ∙ ap integers_of (sym (pieces-from slots chunks i chunk h e)) ∙ sym none)
+
+-- a chunk without valid slots
+pub reduce-skip : {C : Type 0} (slots : C → List (Option Value)) (chunks : List C) (i : ℕ) (chunk : C) → i < length chunks → chunk ≡ get_or chunks i chunk → integers_of (slots chunk) ≡ []
+    → integers_of (flat_map slots (drop i chunks)) ≡ integers_of (flat_map slots (drop (i + 1) chunks))
+reduce-skip slots chunks i chunk h e none =
+    ap integers_of (pieces-from slots chunks i chunk h e)
+    ∙ filter_map-append integer_in (slots chunk) (flat_map slots (drop (i + 1) chunks))
+    ∙ ap (λ (zs : List ℤ). zs ++ integers_of (flat_map slots (drop (i + 1) chunks))) none

@@ -2,4 +2,3 @@ pub mod Pieces
 pub mod WordLaws
 pub mod MovedLaws
 pub mod FoldLaws
-pub mod WrapLaws

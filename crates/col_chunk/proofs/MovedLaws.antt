@@ -33,7 +33,7 @@ module _ (slots : List (Option Value)) where
       get_or-map (λ row. at_row (row_before (length slots) periods row)) (range_with_len 0 (length slots)) i 0 d inside
       ∙ ap (λ (r : ℕ). at_row (row_before (length slots) periods r)) (get_or-range_with_len 0 (length slots) i 0 h ∙ is)
 
-  long_rows : (f : ℕ → Option Value) → length (column_slots f (length slots)) ≡ length slots
+  pub long_rows : (f : ℕ → Option Value) → length (column_slots f (length slots)) ≡ length slots
   long_rows f = length-map (range_with_len 0 (length slots)) f ∙ length-range_with_len 0 (length slots)
 
   down : (k : ℕ) → moved_slots (pos k) slots ≡ column_slots (λ row. at_row (row_before (length slots) (pos k) row)) (length slots)
@@ -42,23 +42,24 @@ module _ (slots : List (Option Value)) where
       let m : ℕ = min k n in
       let nulls : List (Option Value) = replicate m None in
       let kept : List (Option Value) = take (n - m) slots in
-      let long : length (nulls ++ kept) ≡ n = omega (arith, length-append nulls kept, length-replicate m (None {T = Value}), length-take (n - m) slots) in
+      let count : length nulls ≡ m = length-replicate m None in
+      let long : length (nulls ++ kept) ≡ n = omega (arith, length-append nulls kept, count, length-take (n - m) slots) in
       same_lists (nulls ++ kept) _ (long ∙ sym (long_rows _)) (λ i d less.
-          let inside : i < n = omega (arith, long) in
-          elim (cases_lt i m) [
-            | inl low ↦
-                let first : i < length nulls = omega (arith, length-replicate m (None {T = Value})) in
-                let e : pos i -ℤ pos k ≡ negsuc (k - i - 1) = omega (arith, ints) in
-                get_or_append_left nulls kept d i first ∙ get_or-replicate m i None d low
-                ∙ sym (ap (λ (z : ℤ). at_row (row_at n z)) e) ∙ sym (row_slot (pos k) i d inside)
-            | inr high ↦
-                let is : m ≡ k = omega arith in
-                let left : i - m < n - m = omega arith in
-                let e : pos i -ℤ pos k ≡ pos (i - m) = omega (arith, ints) in
-                get_or-append_right nulls kept m i d (length-replicate m None) high ∙ get_or-take (n - m) slots (i - m) d left
-                ∙ there (i - m) d (omega arith)
-                ∙ sym (ap (λ (z : ℤ). at_row (row_at n z)) e) ∙ sym (row_slot (pos k) i d inside)
-          ])
+      let inside : i < n = omega (arith, long) in
+      elim (cases_lt i m) [
+        | inl low ↦
+            let first : i < length nulls = omega (arith, count) in
+            let e : pos i -ℤ pos k ≡ negsuc (k - i - 1) = omega (arith, ints) in
+            get_or_append_left nulls kept d i first ∙ get_or-replicate m i None d low
+            ∙ sym (ap (λ (z : ℤ). at_row (row_at n z)) e) ∙ sym (row_slot (pos k) i d inside)
+        | inr high ↦
+            let is : m ≡ k = omega arith in
+            let left : i - m < n - m = omega arith in
+            let e : pos i -ℤ pos k ≡ pos (i - m) = omega (arith, ints) in
+            get_or-append_right nulls kept m i d count high ∙ get_or-take (n - m) slots (i - m) d left
+            ∙ there (i - m) d (omega arith)
+            ∙ sym (ap (λ (z : ℤ). at_row (row_at n z)) e) ∙ sym (row_slot (pos k) i d inside)
+      ])
 
   up : (k : ℕ) → moved_slots (negsuc k) slots ≡ column_slots (λ row. at_row (row_before (length slots) (negsuc k) row)) (length slots)
   up k =
@@ -67,23 +68,24 @@ module _ (slots : List (Option Value)) where
       let nulls : List (Option Value) = replicate m None in
       let kept : List (Option Value) = take (n - m) (drop m slots) in
       let part : length kept ≡ n - m = omega (arith, length-take (n - m) (drop m slots), length-drop m slots) in
-      let long : length (kept ++ nulls) ≡ n = omega (arith, length-append kept nulls, length-replicate m (None {T = Value}), part) in
+      let count : length nulls ≡ m = length-replicate m None in
+      let long : length (kept ++ nulls) ≡ n = omega (arith, length-append kept nulls, count, part) in
       same_lists (kept ++ nulls) _ (long ∙ sym (long_rows _)) (λ i d less.
-          let inside : i < n = omega (arith, long) in
-          let e : pos i -ℤ negsuc k ≡ pos (i + suc k) = omega (arith, ints) in
-          elim (cases_lt i (n - m)) [
-            | inl low ↦
-                let first : i < length kept = omega (arith, part) in
-                let is : m + i ≡ i + suc k = omega arith in
-                get_or_append_left kept nulls d i first ∙ get_or-take (n - m) (drop m slots) i d low ∙ get_or-drop m slots i d
-                ∙ ap (λ (r : ℕ). get_or slots r d) is ∙ there (i + suc k) d (omega arith)
-                ∙ sym (ap (λ (z : ℤ). at_row (row_at n z)) e) ∙ sym (row_slot (negsuc k) i d inside)
-            | inr high ↦
-                let rest : i - (n - m) < m = omega arith in
-                get_or-append_right kept nulls (n - m) i d part high ∙ get_or-replicate m (i - (n - m)) None d rest
-                ∙ nowhere (i + suc k) (omega arith)
-                ∙ sym (ap (λ (z : ℤ). at_row (row_at n z)) e) ∙ sym (row_slot (negsuc k) i d inside)
-          ])
+      let inside : i < n = omega (arith, long) in
+      let e : pos i -ℤ negsuc k ≡ pos (i + suc k) = omega (arith, ints) in
+      elim (cases_lt i (n - m)) [
+        | inl low ↦
+            let first : i < length kept = omega (arith, part) in
+            let is : m + i ≡ i + suc k = omega arith in
+            get_or_append_left kept nulls d i first ∙ get_or-take (n - m) (drop m slots) i d low ∙ get_or-drop m slots i d
+            ∙ ap (λ (r : ℕ). get_or slots r d) is ∙ there (i + suc k) d (omega arith)
+            ∙ sym (ap (λ (z : ℤ). at_row (row_at n z)) e) ∙ sym (row_slot (negsuc k) i d inside)
+        | inr high ↦
+            let rest : i - (n - m) < m = omega arith in
+            get_or-append_right kept nulls (n - m) i d part high ∙ get_or-replicate m (i - (n - m)) None d rest
+            ∙ nowhere (i + suc k) (omega arith)
+            ∙ sym (ap (λ (z : ℤ). at_row (row_at n z)) e) ∙ sym (row_slot (negsuc k) i d inside)
+      ])
 
 -- the pieces are the rows
 pub moved-rows : (periods : ℤ) (slots : List (Option Value))

@@ -1,12 +1,12 @@
 -- The laws by which chunks of words close.
-use Rattle.std.specs.Prelude.{◌≡◌, ◌+◌, ◌≤◌, ◌<◌, ℕ, zero, suc, ℤ, List, [], ◌∷◌, ◌++◌, Bool, Option, Some, None, length, take, drop, is_some, is_none, count_by, slice_index_or, Result, Ok, Err, OnOk}
+use Rattle.std.specs.Prelude.{◌≡◌, ◌+◌, ◌-◌, ◌≤◌, ◌<◌, ℕ, zero, suc, ℤ, List, [], ◌∷◌, ◌++◌, Bool, Option, Some, None, length, take, drop, is_some, is_none, count_by, slice_index_or, Result, Ok, Err, OnOk}
 use Rattle.std.proofs.Common.{refl, subst, ap, sym, ◌∙◌, arith, add-zero, length-take, length-drop}
-use Rattle.std.proofs.lemmas.List.{length-map}
+use Rattle.std.proofs.lemmas.List.{length-map, take_all}
 use Rattle.col_chunk.specs.Chunks.{word_slots}
 use Rattle.col_model.specs.Value.{Value, whole}
 use Rattle.col_model.specs.ChunkCalls.{null_count}
 use Rattle.col_buffer.specs.Validity.{AddsRange, masked, slot_if, valid_at, valid_count}
-use Rattle.col_buffer.proofs.SlotLaws.{length-masked, length-part, masked-append, masked-push, masked-part, masked-range, nulls-masked, valid-slot, Reaches-le, repeated_are}
+use Rattle.col_buffer.proofs.SlotLaws.{length-masked, length-part, masked-append, masked-push, masked-part, masked-range, nulls-masked, part_is, size_is, valid-slot, Reaches-le, repeated_are}
 
 -- a part of others behind values
 pub copied : {T : Type 0} (reading : T → ℤ) (old new from : Option (List ℕ)) (xs all : List T) (place start len : ℕ) → place ≡ length xs → start + len ≤ length all → AddsRange old new place from start len
@@ -47,6 +47,14 @@ nulls_in_part {T} reading words values o m nulls slots room e counted =
 pub on_ok_both : {T E P Q R : Type 0} (r : Result T E) → (P → Q → R) → OnOk r P → OnOk r Q → OnOk r R
 on_ok_both (Ok x) f p q = f p q
 on_ok_both (Err e) f p q = tt
+
+-- the rest of a part
+pub rest_of_part : {T : Type 0} (reading : T → ℤ) (words copies : Option (List ℕ)) (values : List T) (o m k : ℕ) (slots : List (Option Value)) → copies ≡ words → o + m ≤ length values
+    → masked reading words o (take m (drop o values)) ≡ slots → k ≤ length slots → masked reading copies (o + k) (take (m - k) (drop (o + k) values)) ≡ drop k slots
+rest_of_part reading words copies values o m k slots same room e inside =
+    let size = size_is reading words values o m slots room e in
+    part_is reading words copies values values o m k (m - k) slots refl same room e (omega arith)
+    ∙ take_all (m - k) (drop k slots) (omega (arith, length-drop k slots))
 
 -- words without bits
 pub plain-slots : {T : Type 0} (reading : T → ℤ) (i : ℕ) (xs : List T) → masked reading None i xs ≡ word_slots reading xs

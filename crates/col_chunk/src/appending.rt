@@ -62,16 +62,16 @@ fn flag_behind(rows: usize, flag: IsSorted) -> IsSorted
 }
 
 /// Makes the last chunk one that has the slots of others behind its own.
-fn extend_last<C: Chunk>(
-    chunks: &mut Vec<C>,
-    others: &[C],
-    added: usize,
-) -> Result<(), AllocError>
+fn extend_last<C: Chunk>(chunks: &mut Vec<C>, others: &[C], added: usize) -> Result<(), AllocError>
     requires added { added ≡ length (joined C.slots others.now) }
-    ensures slots { OnOk result (joined C.slots chunks.new.items ≡ joined C.slots chunks.old.items ++ joined C.slots others.now) }
-    ensures lengths { OnOk result (lengths_of C.slots chunks.new.items ≡ longer_last added (lengths_of C.slots chunks.old.items)) }
-    ensures old_slots { OnErr result (joined C.slots chunks.new.items ≡ joined C.slots chunks.old.items) }
-    ensures old_lengths { OnErr result (lengths_of C.slots chunks.new.items ≡ lengths_of C.slots chunks.old.items) }
+    ensures slots { OnOk result (joined C.slots chunks.new.items
+        ≡ joined C.slots chunks.old.items ++ joined C.slots others.now) }
+    ensures lengths { OnOk result (lengths_of C.slots chunks.new.items
+        ≡ longer_last added (lengths_of C.slots chunks.old.items)) }
+    ensures old_slots { OnErr result (joined C.slots chunks.new.items
+        ≡ joined C.slots chunks.old.items) }
+    ensures old_lengths { OnErr result (lengths_of C.slots chunks.new.items
+        ≡ lengths_of C.slots chunks.old.items) }
 {
     let alloc = *chunks.allocator();
     let count = chunks.len();
@@ -92,7 +92,8 @@ fn with_others<C: Chunk>(
     others: &[C],
     added: usize,
 ) -> Result<C, AllocError>
-    ensures slots { IfOk result (λ chunk. C.slots chunk ≡ C.slots first.now ++ joined C.slots others.now) }
+    ensures slots { IfOk result (λ chunk. C.slots chunk ≡ C.slots first.now
+        ++ joined C.slots others.now) }
 {
     let mut builder = C::builder(alloc, first.len().saturating_add(added))?;
     first.copy_onto(0, first.len(), &mut builder)?;

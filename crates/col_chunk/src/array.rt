@@ -39,9 +39,20 @@ impl<C: Chunk> Model for ArrayOf<C> {
     ghost use Rattle.col_types.specs.declared.is_sorted.IsSorted.TheVariants.{Not};
     ghost use Rattle.col_chunk.specs.Chunks.{joined, lengths_of};
 
-    ghost view = { λ a. record { column = record { name = a.name; dtype = C.dtype; slots = joined C.slots a.chunks.items; flag = a.flag }; chunk_lengths = lengths_of C.slots a.chunks.items } };
+    ghost view = { λ a. record {
+      column = record {
+        name = a.name;
+        dtype = C.dtype;
+        slots =
+            joined C.slots a.chunks.items;
+        flag = a.flag;
+      };
+      chunk_lengths = lengths_of C.slots
+          a.chunks.items;
+    } };
 
-    ghost invariant = { λ a. (a.len ≡ length (joined C.slots a.chunks.items)) × (a.len < 2 ^ 32) × (a.flag ≡ Not) };
+    ghost invariant = { λ a. (a.len
+        ≡ length (joined C.slots a.chunks.items)) × (a.len < 2 ^ 32) × (a.flag ≡ Not) };
 }
 
 impl<C: Chunk> ArrayOf<C> {
@@ -189,7 +200,8 @@ pub(crate) fn of_one<C: Chunk>(
 ) -> PolarsResult<ArrayOf<C>>
     requires short { length (C.slots chunk) < 2 ^ 32 }
     requires flag { flag ≡ Not }
-    ensures column { Gives result (Ok (in_one_chunk (record { name = name; dtype = C.dtype; slots = C.slots chunk; flag = flag }))) }
+    ensures column { Gives result (Ok (in_one_chunk
+        (record { name = name; dtype = C.dtype; slots = C.slots chunk; flag = flag }))) }
 {
     let len = chunk.len();
     let mut chunks = Vec::new(alloc);
@@ -206,7 +218,8 @@ pub(crate) fn of_one<C: Chunk>(
 pub(crate) fn place_of<C: Chunk>(chunks: &[C], index: usize) -> (&C, usize)
     requires row { index < length (joined C.slots chunks.now) }
     ensures inside { result.1 < length (C.slots result.0.now) }
-    ensures slot { slice_index_or (C.slots result.0.now) result.1 None ≡ slice_index_or (joined C.slots chunks.now) index None }
+    ensures slot { slice_index_or (C.slots result.0.now) result.1 None
+        ≡ slice_index_or (joined C.slots chunks.now) index None }
 {
     let mut left = index;
     for chunk in chunks {
@@ -242,8 +255,10 @@ fn all_known<C: Chunk>(chunks: &[C])
 
 /// The same chunks, in the same memory.
 pub(crate) fn shared<C: Chunk>(alloc: Global, chunks: &[C]) -> Result<Vec<C>, AllocError>
-    ensures slots { IfOk result (λ copies. joined C.slots copies.items ≡ joined C.slots chunks.now) }
-    ensures lengths { IfOk result (λ copies. lengths_of C.slots copies.items ≡ lengths_of C.slots chunks.now) }
+    ensures slots { IfOk result (λ copies. joined C.slots copies.items
+        ≡ joined C.slots chunks.now) }
+    ensures lengths { IfOk result (λ copies. lengths_of C.slots copies.items
+        ≡ lengths_of C.slots chunks.now) }
 {
     let mut copies = Vec::with_capacity(alloc, chunks.len())?;
     for chunk in chunks {
@@ -254,8 +269,10 @@ pub(crate) fn shared<C: Chunk>(alloc: Global, chunks: &[C]) -> Result<Vec<C>, Al
 
 /// The same chunks, each without room for other slots.
 fn all_shrunk<C: Chunk>(alloc: Global, chunks: &[C]) -> Result<Vec<C>, AllocError>
-    ensures slots { IfOk result (λ copies. joined C.slots copies.items ≡ joined C.slots chunks.now) }
-    ensures lengths { IfOk result (λ copies. lengths_of C.slots copies.items ≡ lengths_of C.slots chunks.now) }
+    ensures slots { IfOk result (λ copies. joined C.slots copies.items
+        ≡ joined C.slots chunks.now) }
+    ensures lengths { IfOk result (λ copies. lengths_of C.slots copies.items
+        ≡ lengths_of C.slots chunks.now) }
 {
     let mut copies = Vec::with_capacity(alloc, chunks.len())?;
     for chunk in chunks {

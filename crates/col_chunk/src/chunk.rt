@@ -46,7 +46,8 @@ pub trait Chunk: Drop {
     /// A part, in the same memory.
     fn share(&self, offset: usize, len: usize) -> Result<Self, AllocError>
         requires inside { offset + len ≤ length (slots self.now) }
-        ensures slots { IfOk result (λ part. slots part ≡ take len (drop offset (slots self.now))) };
+        ensures slots { IfOk result (λ part. slots part
+            ≡ take len (drop offset (slots self.now))) };
 
     /// The same slots in a buffer that has no room for others. The same memory where it is one.
     fn shrunk(&self, alloc: Global) -> Result<Self, AllocError>
@@ -59,7 +60,8 @@ pub trait Chunk: Drop {
     /// One slot, so many times.
     fn repeat(&self, alloc: Global, index: usize, len: usize) -> Result<Self, AllocError>
         requires inside { index < length (slots self.now) }
-        ensures slots { IfOk result (λ chunk. slots chunk ≡ replicate len (slice_index_or (slots self.now) index None)) };
+        ensures slots { IfOk result (λ chunk. slots chunk
+            ≡ replicate len (slice_index_or (slots self.now) index None)) };
 
     /// A builder with room for so many slots.
     fn builder(alloc: Global, room: usize) -> Result<Self::Builder, AllocError>
@@ -73,12 +75,14 @@ pub trait Chunk: Drop {
         builder: &mut Self::Builder,
     ) -> Result<(), AllocError>
         requires inside { offset + len ≤ length (slots self.now) }
-        ensures slots { OnOk result (written builder.new ≡ written builder.old ++ take len (drop offset (slots self.now))) };
+        ensures slots { OnOk result (written builder.new ≡ written builder.old
+            ++ take len (drop offset (slots self.now))) };
 
     /// Writes one slot behind what was written.
     fn push_onto(&self, index: usize, builder: &mut Self::Builder) -> Result<(), AllocError>
         requires inside { index < length (slots self.now) }
-        ensures slots { OnOk result (written builder.new ≡ written builder.old ++ slice_index_or (slots self.now) index None ∷ []) };
+        ensures slots { OnOk result (written builder.new ≡ written builder.old
+            ++ slice_index_or (slots self.now) index None ∷ []) };
 
     /// A chunk of what was written.
     fn build(alloc: Global, builder: Self::Builder) -> Result<Self, AllocError>
@@ -110,7 +114,8 @@ pub trait SetChunk: Chunk {
     /// Writes a slot. Where memory is wanting the chunk stays as it was.
     fn set(&mut self, alloc: Global, index: usize, slot: Self::Slot) -> Result<(), AllocError>
         requires inside { index < length (Self.slots self.old) }
-        ensures ok { OnOk result (Self.slots self.new ≡ slice_set (Self.slots self.old) index (slot_of slot)) }
+        ensures ok { OnOk result (Self.slots self.new
+            ≡ slice_set (Self.slots self.old) index (slot_of slot)) }
         ensures err { OnErr result (Self.slots self.new ≡ Self.slots self.old) }
         ensures len { length (Self.slots self.new) ≡ length (Self.slots self.old) };
 }

@@ -9,8 +9,6 @@ mod parts;
 mod reductions;
 mod rows;
 mod setting;
-#[cfg(test)]
-mod tests;
 mod word_chunk;
 mod words;
 

@@ -1,9 +1,11 @@
 //! Parts of a column, and its rows moved, in the same memory.
 
-ghost use Rattle.std.specs.Prelude.{◌≡◌, ◌+◌, ◌-◌, ◌<◌, ◌≤◌, ◌++◌, ◌^◌, ◌+ℤ◌, min, pos, unsigned_abs, IfOk, None, OnOk, Ok, drop, length, replicate, take};
+ghost use Rattle.std.specs.Prelude.{◌≡◌, ◌+◌, ◌-◌, ◌<◌, ◌≤◌, ◌++◌, ◌^◌, ◌+ℤ◌, min, pos, unsigned_abs, IfOk, None, OnOk, Ok, drop, length, replicate, slice_index_or, take};
+ghost use Rattle.std.specs.Option.{option_and_then};
 ghost use Rattle.col_types.specs.PolarsError.{GivesBy};
 ghost use Rattle.col_model.specs.Chunked.{column_of};
 ghost use Rattle.col_model.specs.ChunkCalls.{columns_of, place_of, row_of, rows_between, sliced, split};
+ghost use Rattle.col_model.specs.Broadcast.{column_slots, row_before};
 ghost use Rattle.col_model.specs.OperatorCalls.{shifted};
 ghost use Rattle.col_chunk.specs.Chunks.{joined, moved_slots};
 
@@ -59,7 +61,7 @@ impl<C: Chunk> ArrayOf<C> {
         ensures column { GivesBy column_of result (Ok (shifted self.now.column periods)) }
     {
         let name = self.name.clone()?;
-        let chunks = moved(alloc, self.chunks.as_slice(), self.len, periods)?;
+        let chunks = shifted_chunks(alloc, self.chunks.as_slice(), self.len, periods)?;
         Ok(ArrayOf {
             name,
             chunks,
@@ -99,6 +101,24 @@ fn row_of(rows: usize, place: i128) -> usize
     }
 }
 
+/// The chunks of the rows so many further down, row by row.
+fn shifted_chunks<C: Chunk>(
+    alloc: Global,
+    chunks: &[C],
+    len: usize,
+    periods: i64,
+) -> Result<Vec<C>, AllocError>
+    requires len { len ≡ length (joined C.slots chunks.now) }
+    ensures slots { IfOk result (λ answer. joined C.slots answer.items
+        ≡ column_slots (λ row. option_and_then (λ r. slice_index_or
+        (joined C.slots chunks.now) r None) (row_before (length
+        (joined C.slots chunks.now)) periods row)) (length (joined C.slots chunks.now))) }
+    ensures len { IfOk result (λ answer. length (joined C.slots answer.items) ≡ len) }
+{
+    let answer = moved(alloc, chunks, len, periods)?;
+    Ok(answer)
+}
+
 /// The chunks of the rows so many further down, or up for a negative number.
 fn moved<C: Chunk>(
     alloc: Global,
@@ -107,7 +127,8 @@ fn moved<C: Chunk>(
     periods: i64,
 ) -> Result<Vec<C>, AllocError>
     requires len { len ≡ length (joined C.slots chunks.now) }
-    ensures slots { IfOk result (λ answer. joined C.slots answer.items ≡ moved_slots periods (joined C.slots chunks.now)) }
+    ensures slots { IfOk result (λ answer. joined C.slots answer.items
+        ≡ moved_slots periods (joined C.slots chunks.now)) }
 {
     let distance = distance(periods, len);
     if periods < 0 {
@@ -137,7 +158,8 @@ fn moved_down<C: Chunk>(
     kept: usize,
 ) -> Result<Vec<C>, AllocError>
     requires len { distance + kept ≡ length (joined C.slots chunks.now) }
-    ensures slots { IfOk result (λ answer. joined C.slots answer.items ≡ replicate distance None ++ take kept (joined C.slots chunks.now)) }
+    ensures slots { IfOk result (λ answer. joined C.slots answer.items
+        ≡ replicate distance None ++ take kept (joined C.slots chunks.now)) }
 {
     let mut answer = Vec::new(alloc);
     answer.push(C::nulls(alloc, distance)?)?;
@@ -153,7 +175,8 @@ fn moved_up<C: Chunk>(
     kept: usize,
 ) -> Result<Vec<C>, AllocError>
     requires len { distance + kept ≡ length (joined C.slots chunks.now) }
-    ensures slots { IfOk result (λ answer. joined C.slots answer.items ≡ take kept (drop distance (joined C.slots chunks.now)) ++ replicate distance None) }
+    ensures slots { IfOk result (λ answer. joined C.slots answer.items
+        ≡ take kept (drop distance (joined C.slots chunks.now)) ++ replicate distance None) }
 {
     let mut answer = Vec::new(alloc);
     share_onto(&mut answer, chunks, distance, kept)?;
@@ -169,7 +192,8 @@ pub(crate) fn share_onto<C: Chunk>(
     len: usize,
 ) -> Result<(), AllocError>
     requires inside { offset + len ≤ length (joined C.slots chunks.now) }
-    ensures slots { OnOk result (joined C.slots parts.new.items ≡ joined C.slots parts.old.items ++ take len (drop offset (joined C.slots chunks.now))) }
+    ensures slots { OnOk result (joined C.slots parts.new.items
+        ≡ joined C.slots parts.old.items ++ take len (drop offset (joined C.slots chunks.now))) }
 {
     let mut skip = offset;
     let mut left = len;

@@ -28,35 +28,40 @@ impl<T: Word> ArrayOf<WordChunk<T>> {
 
     /// The least valid slot, none where there is none.
     pub fn min(&self) -> Option<T>
-        ensures value { option_map T.reading result ≡ reduce lesser (integers_of self.now.column.slots) }
+        ensures value { option_map T.reading result
+            ≡ reduce lesser (integers_of self.now.column.slots) }
     {
         reduce_all::<T, Lesser>(self.chunks.as_slice())
     }
 
     /// The greatest valid slot, none where there is none.
     pub fn max(&self) -> Option<T>
-        ensures value { option_map T.reading result ≡ reduce greater (integers_of self.now.column.slots) }
+        ensures value { option_map T.reading result
+            ≡ reduce greater (integers_of self.now.column.slots) }
     {
         reduce_all::<T, Greater>(self.chunks.as_slice())
     }
 
     /// The bits that all valid slots have, none where there is none.
     pub fn and_reduce(&self) -> Option<T>
-        ensures value { option_map T.reading result ≡ reduce (bits_and T.word_type) (integers_of self.now.column.slots) }
+        ensures value { option_map T.reading result
+            ≡ reduce (bits_and T.word_type) (integers_of self.now.column.slots) }
     {
         reduce_all::<T, And>(self.chunks.as_slice())
     }
 
     /// The bits that a valid slot has, none where there is none.
     pub fn or_reduce(&self) -> Option<T>
-        ensures value { option_map T.reading result ≡ reduce (bits_or T.word_type) (integers_of self.now.column.slots) }
+        ensures value { option_map T.reading result
+            ≡ reduce (bits_or T.word_type) (integers_of self.now.column.slots) }
     {
         reduce_all::<T, Or>(self.chunks.as_slice())
     }
 
     /// The bits that an odd number of valid slots have, none where there is none.
     pub fn xor_reduce(&self) -> Option<T>
-        ensures value { option_map T.reading result ≡ reduce (bits_xor T.word_type) (integers_of self.now.column.slots) }
+        ensures value { option_map T.reading result
+            ≡ reduce (bits_xor T.word_type) (integers_of self.now.column.slots) }
     {
         reduce_all::<T, Xor>(self.chunks.as_slice())
     }
@@ -142,7 +147,8 @@ impl<T: Word> Step<T> for Xor {
 
 /// Joins the valid words of chunks to what there is so far.
 fn fold_all<T: Word, S: Step<T>>(chunks: &[WordChunk<T>], total: T) -> T
-    ensures value { T.reading result ≡ fold S.step (T.reading total) (integers_of (joined (λ chunk. chunk) chunks.now)) }
+    ensures value { T.reading result
+        ≡ fold S.step (T.reading total) (integers_of (joined (λ chunk. chunk) chunks.now)) }
 {
     let mut total = total;
     for chunk in chunks {
@@ -153,13 +159,17 @@ fn fold_all<T: Word, S: Step<T>>(chunks: &[WordChunk<T>], total: T) -> T
 
 /// Joins the valid words of chunks to the first of them.
 fn reduce_all<T: Word, S: Step<T>>(chunks: &[WordChunk<T>]) -> Option<T>
-    ensures value { option_map T.reading result ≡ reduce S.step (integers_of (joined (λ chunk. chunk) chunks.now)) }
+    ensures value { option_map T.reading result
+        ≡ reduce S.step (integers_of (joined (λ chunk. chunk) chunks.now)) }
 {
     for at in 0..chunks.len() {
         let chunk = &chunks[at];
-        if let Some((place, first)) = chunk.first_valid() {
-            let total = chunk.fold::<S>(place + 1, first);
-            return Some(fold_all::<T, S>(&chunks[at + 1..], total));
+        match chunk.first_valid() {
+            Some((place, first)) => {
+                let total = chunk.fold::<S>(place, first);
+                return Some(fold_all::<T, S>(&chunks[at + 1..], total));
+            }
+            None => {}
         }
     }
     None

@@ -67,7 +67,8 @@ fn turned_chunk<C: Chunk>(alloc: Global, chunk: &C) -> Result<C, AllocError>
 
 /// The valid slots of the chunks.
 fn valid_slots<C: Chunk>(alloc: Global, chunks: &[C], room: usize) -> Result<C, AllocError>
-    ensures slots { IfOk result (λ answer. C.slots answer ≡ filter is_some (joined C.slots chunks.now)) }
+    ensures slots { IfOk result (λ answer. C.slots answer
+        ≡ filter is_some (joined C.slots chunks.now)) }
 {
     let mut builder = C::builder(alloc, room)?;
     for chunk in chunks {
@@ -78,7 +79,8 @@ fn valid_slots<C: Chunk>(alloc: Global, chunks: &[C], room: usize) -> Result<C, 
 
 /// Writes the valid slots of a chunk behind what was written.
 fn keep_valid<C: Chunk>(chunk: &C, builder: &mut C::Builder) -> Result<(), AllocError>
-    ensures slots { OnOk result (C.written builder.new ≡ C.written builder.old ++ filter is_some (C.slots chunk.now)) }
+    ensures slots { OnOk result (C.written builder.new ≡ C.written builder.old
+        ++ filter is_some (C.slots chunk.now)) }
 {
     for index in 0..chunk.len() {
         if chunk.is_valid(index) {

@@ -14,7 +14,8 @@ impl<C: SetChunk> ArrayOf<C> {
     /// order. Where memory is wanting the column stays as it was.
     pub fn set_slot(&mut self, index: usize, slot: C::Slot) -> PolarsResult<()>
         requires row { index < length self.old.column.slots }
-        ensures column { Becomes result self.old self.new (Ok (slot_set index (C.slot_of slot) self.old)) }
+        ensures column { Becomes result self.old self.new (Ok (slot_set index
+            (C.slot_of slot) self.old)) }
     {
         let alloc = *self.chunks.allocator();
         set_in(alloc, self.chunks.as_mut_slice(), index, slot)?;
@@ -31,7 +32,8 @@ fn set_in<C: SetChunk>(
     slot: C::Slot,
 ) -> Result<(), AllocError>
     requires row { index < length (joined C.slots chunks.old) }
-    ensures ok { OnOk result (joined C.slots chunks.new ≡ slice_set (joined C.slots chunks.old) index (C.slot_of slot)) }
+    ensures ok { OnOk result (joined C.slots chunks.new
+        ≡ slice_set (joined C.slots chunks.old) index (C.slot_of slot)) }
     ensures err { OnErr result (joined C.slots chunks.new ≡ joined C.slots chunks.old) }
     ensures lengths { lengths_of C.slots chunks.new ≡ lengths_of C.slots chunks.old }
 {

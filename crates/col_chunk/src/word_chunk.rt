@@ -34,9 +34,12 @@ impl<T: Word> Model for WordChunk<T> {
 
     ghost Value = { List (Option SlotValue) };
 
-    ghost view = { λ c. masked T.reading (option_map (λ words. words.value.items) c.validity) c.offset (take c.len (drop c.offset c.values.value.items)) };
+    ghost view = { λ c. masked T.reading (option_map
+        (λ words. words.value.items) c.validity) c.offset (take c.len
+        (drop c.offset c.values.value.items)) };
 
-    ghost invariant = { λ c. (c.offset + c.len ≤ length c.values.value.items) × Reaches (option_map (λ words. words.value.items) c.validity) (c.offset + c.len) };
+    ghost invariant = { λ c. (c.offset + c.len ≤ length c.values.value.items) × Reaches
+        (option_map (λ words. words.value.items) c.validity) (c.offset + c.len) };
 }
 
 /// Optional words that are being written.
@@ -54,9 +57,11 @@ impl<T: Word> Model for WordBuilder<T> {
 
     ghost Value = { List (Option SlotValue) };
 
-    ghost view = { λ b. masked T.reading (option_map (λ words. words.items) b.validity) 0 b.values.items };
+    ghost view = { λ b. masked T.reading (option_map
+        (λ words. words.items) b.validity) 0 b.values.items };
 
-    ghost invariant = { λ b. Reaches (option_map (λ words. words.items) b.validity) (length b.values.items) };
+    ghost invariant = { λ b. Reaches (option_map (λ words. words.items) b.validity)
+        (length b.values.items) };
 }
 
 impl<T: Word> Chunk for WordChunk<T> {
@@ -192,7 +197,8 @@ impl<T: Word> WordChunk<T> {
     /// Writes a slot, in place where nobody else has the buffers.
     fn set_slot(&mut self, alloc: Global, index: usize, slot: Option<T>) -> Result<(), AllocError>
         requires inside { index < length self.old }
-        ensures ok { OnOk result (self.new ≡ slice_set self.old index (option_map (λ x. whole (T.reading x)) slot)) }
+        ensures ok { OnOk result (self.new
+            ≡ slice_set self.old index (option_map (λ x. whole (T.reading x)) slot)) }
         ensures err { OnErr result (self.new ≡ self.old) }
     {
         let place = self.offset + index;
@@ -223,10 +229,14 @@ fn write_slot<T: Word>(
     requires inside { place < length values.old.value.items }
     requires counts { place < count }
     requires reach { Reaches (option_map (λ words. words.value.items) validity.old) count }
-    ensures values { OnOk result (values.new.value.items ≡ slice_set values.old.value.items place value) }
-    ensures valid { OnOk result (SetsValid (option_map (λ words. words.value.items) validity.old) (option_map (λ words. words.value.items) validity.new) count place true) }
+    ensures values { OnOk result (values.new.value.items
+        ≡ slice_set values.old.value.items place value) }
+    ensures valid { OnOk result (SetsValid (option_map
+        (λ words. words.value.items) validity.old) (option_map
+        (λ words. words.value.items) validity.new) count place true) }
     ensures old_values { OnErr result (values.new.value.items ≡ values.old.value.items) }
-    ensures old_valid { OnErr result (option_map (λ words. words.value.items) validity.new ≡ option_map (λ words. words.value.items) validity.old) }
+    ensures old_valid { OnErr result (option_map (λ words. words.value.items) validity.new
+        ≡ option_map (λ words. words.value.items) validity.old) }
 {
     if let Some(own) = Rc::get_mut(values) {
         set_valid(alloc, validity, count, place, true)?;
@@ -248,7 +258,8 @@ pub(crate) fn from_buffers<T: Word>(
     validity: Option<Vec<u64>>,
 ) -> Result<WordChunk<T>, AllocError>
     requires reach { Reaches (option_map (λ words. words.items) validity) (length values.items) }
-    ensures slots { IfOk result (λ chunk. chunk ≡ masked T.reading (option_map (λ words. words.items) validity) 0 values.items) }
+    ensures slots { IfOk result (λ chunk. chunk
+        ≡ masked T.reading (option_map (λ words. words.items) validity) 0 values.items) }
 {
     let len = values.len();
     let values = Rc::new(alloc, values)?;
@@ -268,10 +279,15 @@ pub(crate) fn push_slot<T: Word>(
     value: T,
     valid: bool,
 ) -> Result<(), AllocError>
-    requires reach { Reaches (option_map (λ words. words.items) validity.old) (length values.old.items) }
-    ensures slots { OnOk result (masked T.reading (option_map (λ words. words.items) validity.new) 0 values.new.items
-        ≡ masked T.reading (option_map (λ words. words.items) validity.old) 0 values.old.items ++ slot_if T.reading valid value ∷ []) }
-    ensures reach { Reaches (option_map (λ words. words.items) validity.new) (length values.new.items) }
+    requires reach { Reaches (option_map (λ words. words.items) validity.old)
+        (length values.old.items) }
+    ensures slots { OnOk result (masked T.reading (option_map
+        (λ words. words.items) validity.new) 0 values.new.items
+        ≡ masked T.reading (option_map
+        (λ words. words.items) validity.old) 0 values.old.items
+        ++ slot_if T.reading valid value ∷ []) }
+    ensures reach { Reaches (option_map (λ words. words.items) validity.new)
+        (length values.new.items) }
 {
     let place = values.len();
     add_valid(*values.allocator(), validity, place, valid)?;
@@ -288,13 +304,17 @@ fn copy_part<T: Word>(
     start: usize,
     len: usize,
 ) -> Result<(), AllocError>
-    requires reach { Reaches (option_map (λ words. words.items) validity.old) (length values.old.items) }
+    requires reach { Reaches (option_map (λ words. words.items) validity.old)
+        (length values.old.items) }
     requires inside { start + len ≤ length from.now }
     requires bits { Reaches (option_map (λ words. words.now) bits) (start + len) }
-    ensures slots { OnOk result (masked T.reading (option_map (λ words. words.items) validity.new) 0 values.new.items
+    ensures slots { OnOk result (masked T.reading (option_map
+        (λ words. words.items) validity.new) 0 values.new.items
         ≡ masked T.reading (option_map (λ words. words.items) validity.old) 0 values.old.items
-        ++ masked T.reading (option_map (λ words. words.now) bits.entry) start (take len (drop start from.now))) }
-    ensures reach { Reaches (option_map (λ words. words.items) validity.new) (length values.new.items) }
+        ++ masked T.reading (option_map (λ words. words.now) bits.entry) start (take len
+        (drop start from.now))) }
+    ensures reach { Reaches (option_map (λ words. words.items) validity.new)
+        (length values.new.items) }
 {
     let place = values.len();
     if place.checked_add(len).is_none() {

@@ -53,7 +53,8 @@ impl<T: Word> ArrayOf<WordChunk<T>> {
     /// A column of these words in one chunk. Refused at 2^32 rows or more (`TooLong`).
     #[tactic(auto, using(crate::proofs::WordLaws::plain_laws))]
     pub fn from_slice(alloc: Global, name: PlSmallStr, values: &[T]) -> PolarsResult<Self>
-        ensures column { Gives result (new_column name (word_dtype T.word_type) (word_slots T.reading values.now)) }
+        ensures column { Gives result (new_column name (word_dtype T.word_type)
+            (word_slots T.reading values.now)) }
     {
         if values.len() >= ROW_LIMIT {
             return Err(PolarsError::TooLong {
@@ -68,7 +69,8 @@ impl<T: Word> ArrayOf<WordChunk<T>> {
     /// (`TooLong`).
     #[tactic(auto, using(crate::proofs::WordLaws::plain_laws))]
     pub fn from_vec(alloc: Global, name: PlSmallStr, values: Vec<T>) -> PolarsResult<Self>
-        ensures column { Gives result (new_column name (word_dtype T.word_type) (word_slots T.reading values.items)) }
+        ensures column { Gives result (new_column name (word_dtype T.word_type)
+            (word_slots T.reading values.items)) }
     {
         if values.len() >= ROW_LIMIT {
             return Err(PolarsError::TooLong {
@@ -116,7 +118,8 @@ impl<T: Word> ChunkView<'_, T> {
     /// The slot at an index.
     pub fn get(&self, index: usize) -> Option<T>
         requires inside { index < length self.now }
-        ensures slot { option_map (λ x. whole (T.reading x)) result ≡ slice_index_or self.now index None }
+        ensures slot { option_map (λ x. whole (T.reading x)) result
+            ≡ slice_index_or self.now index None }
     {
         self.chunk.get(index)
     }

@@ -1,7 +1,7 @@
 -- Columns of words: their type, the slots that fit it, and what reductions make of them.
-use Rattle.std.specs.Prelude.{ℕ, ℤ, pos, ◌+ℤ◌, ◌*ℤ◌, Bool, true, List, fold, Option, Some, None, int_lt, bit_and, bit_or, bit_xor, if◌then◌else◌}
+use Rattle.std.specs.Prelude.{ℤ, pos, ◌+ℤ◌, ◌*ℤ◌, Bool, true, List, fold, Option, Some, None, int_lt, if◌then◌else◌}
 use Rattle.std.specs.List.{filter_map}
-use Rattle.std.specs.Int.{w8, w16, w32, w64, w128, cast_unsigned}
+use Rattle.std.specs.Int.{w8, w16, w32, w64, w128, int_bit_and, int_bit_or, int_bit_xor}
 use Rattle.col_types.specs.declared.data_type.DataType.{DataType, Int8, Int16, Int32, Int64, Int128, UInt8, UInt16, UInt32, UInt64}
 use Rattle.col_model.specs.Arithmetic.{WordType, Signed, Unsigned, word_values, wrapped_value}
 use Rattle.col_model.specs.Column.{is_value_in}
@@ -36,13 +36,13 @@ integer_in _ = None
 abbrev pub integers_of : List (Option Value) → List ℤ
 integers_of slots = filter_map integer_in slots
 
--- their sum, wrapped
+-- their sum, wrapped at each addition
 abbrev pub sum_of : WordType → List (Option Value) → ℤ
-sum_of word slots = wrapped_value word (fold (λ x y. x +ℤ y) (pos 0) (integers_of slots))
+sum_of word slots = fold (λ x y. wrapped_value word (x +ℤ y)) (wrapped_value word (pos 0)) (integers_of slots)
 
--- their product, wrapped
+-- their product, wrapped at each multiplication
 abbrev pub product_of : WordType → List (Option Value) → ℤ
-product_of word slots = wrapped_value word (fold (λ x y. x *ℤ y) (pos 1) (integers_of slots))
+product_of word slots = fold (λ x y. wrapped_value word (x *ℤ y)) (wrapped_value word (pos 1)) (integers_of slots)
 
 -- the lesser and the greater of two integers
 abbrev pub lesser : ℤ → ℤ → ℤ
@@ -51,16 +51,14 @@ lesser x y = if int_lt y x then y else x
 abbrev pub greater : ℤ → ℤ → ℤ
 greater x y = if int_lt x y then y else x
 
--- an operation on the bits of two words
-abbrev pub on_bits : WordType → (ℕ → ℕ → ℕ) → ℤ → ℤ → ℤ
-on_bits word f x y = wrapped_value word (pos (f (cast_unsigned w128 x) (cast_unsigned w128 y)))
-
--- the bits that both have, that either has, that one has
+-- the bits that both have, in two's complement
 abbrev pub bits_and : WordType → ℤ → ℤ → ℤ
-bits_and word = on_bits word bit_and
+bits_and word x y = wrapped_value word (int_bit_and w128 x y)
 
+-- the bits that either has
 abbrev pub bits_or : WordType → ℤ → ℤ → ℤ
-bits_or word = on_bits word bit_or
+bits_or word x y = wrapped_value word (int_bit_or w128 x y)
 
+-- the bits that one alone has
 abbrev pub bits_xor : WordType → ℤ → ℤ → ℤ
-bits_xor word = on_bits word bit_xor
+bits_xor word x y = wrapped_value word (int_bit_xor w128 x y)

@@ -1,1 +1,0 @@
-//! Small columns by hand.
