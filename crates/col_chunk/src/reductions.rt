@@ -16,14 +16,14 @@ impl<T: Word> ArrayOf<WordChunk<T>> {
     pub fn sum(&self) -> T
         ensures value { T.reading result ≡ sum_of T.word_type self.now.column.slots }
     {
-        fold_all::<T, Sum>(self.chunks.as_slice(), T::wrap_i128(0))
+        fold_from::<T, Sum>(self.chunks.as_slice(), 0, T::wrap_i128(0))
     }
 
     /// The product of the valid slots, wrapped. It is 1 where there are none.
     pub fn product(&self) -> T
         ensures value { T.reading result ≡ product_of T.word_type self.now.column.slots }
     {
-        fold_all::<T, Product>(self.chunks.as_slice(), T::wrap_i128(1))
+        fold_from::<T, Product>(self.chunks.as_slice(), 0, T::wrap_i128(1))
     }
 
     /// The least valid slot, none where there is none.
@@ -145,16 +145,27 @@ impl<T: Word> Step<T> for Xor {
     }
 }
 
-/// Joins the valid words of chunks to what there is so far.
-fn fold_all<T: Word, S: Step<T>>(chunks: &[WordChunk<T>], total: T) -> T
-    ensures value { T.reading result
-        ≡ fold S.step (T.reading total) (integers_of (joined (λ chunk. chunk) chunks.now)) }
+/// Joins the valid words of the chunks from one on.
+fn fold_from<T: Word, S: Step<T>>(chunks: &[WordChunk<T>], from: usize, total: T) -> T
+    requires inside { from ≤ length chunks.now }
+    ensures value { T.reading result ≡ fold S.step (T.reading total)
+        (integers_of (joined (λ chunk. chunk) (drop from chunks.now))) }
 {
     let mut total = total;
-    for chunk in chunks {
+    for at in from..chunks.len() {
+        let chunk = &chunks[at];
         total = chunk.fold::<S>(0, total);
     }
     total
+}
+
+/// Joins the valid words of a chunk that are behind a first one to it.
+fn join_behind<T: Word, S: Step<T>>(chunk: &WordChunk<T>, first: (usize, T)) -> T
+    requires inside { first.0 ≤ length chunk.now }
+    ensures value { T.reading result ≡ fold S.step (T.reading first.1)
+        (integers_of (drop first.0 chunk.now)) }
+{
+    chunk.fold::<S>(first.0, first.1)
 }
 
 /// Joins the valid words of chunks to the first of them.
@@ -165,9 +176,9 @@ fn reduce_all<T: Word, S: Step<T>>(chunks: &[WordChunk<T>]) -> Option<T>
     for at in 0..chunks.len() {
         let chunk = &chunks[at];
         match chunk.first_valid() {
-            Some((place, first)) => {
-                let total = chunk.fold::<S>(place, first);
-                return Some(fold_all::<T, S>(&chunks[at + 1..], total));
+            Some(first) => {
+                let total = join_behind::<T, S>(chunk, first);
+                return Some(fold_from::<T, S>(chunks, at + 1, total));
             }
             None => {}
         }
