@@ -17,3 +17,6 @@ pub mod UnitLaws
 pub mod TableLaws
 pub mod KnownWords
 pub mod IntervalLaws
+pub mod ChunkCalls
+pub mod Words
+pub mod Items

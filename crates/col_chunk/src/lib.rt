@@ -1,0 +1,22 @@
+//! Columns in shared chunks, whatever a chunk keeps, and columns of words.
+#![tactic(auto)]
+
+mod appending;
+mod array;
+mod chunk;
+mod folds;
+mod parts;
+mod reductions;
+mod rows;
+mod setting;
+mod word_chunk;
+mod words;
+
+pub use array::{ArrayOf, ROW_LIMIT};
+pub use chunk::{Chunk, SetChunk, View};
+pub use col_kernel::{Word, rescale_slot};
+pub use word_chunk::{WordBuilder, WordChunk};
+pub use words::{
+    ChunkView, ChunkedArray, IdxCa, Int8Chunked, Int16Chunked, Int32Chunked, Int64Chunked,
+    Int128Chunked, UInt8Chunked, UInt16Chunked, UInt32Chunked, UInt64Chunked,
+};
