@@ -7,3 +7,7 @@ pub mod Built
 pub mod Node
 pub mod Found
 pub mod Laws
+pub mod Numbers
+pub mod Plan
+pub mod FoundPlan
+pub mod PlanLaws
