@@ -1,6 +1,7 @@
 //! Expressions over columns: building one, and evaluating it.
 #![tactic(auto)]
 
+mod check;
 mod error;
 mod evaluation;
 mod expr;
@@ -8,12 +9,14 @@ mod inputs;
 mod laws;
 mod node;
 mod operations;
+mod plan;
 mod steps;
 #[cfg(test)]
 mod tests;
 
 pub use col_series::{CastOptions, DataType, Series, TimeUnit, TimeZone};
 pub use col_types::{BinOp, ScalarOp};
+pub use check::check_plan;
 pub use error::{EvalError, ExprCause, ExprRefused};
 pub use evaluation::evaluate;
 pub use expr::Expr;
@@ -23,4 +26,5 @@ pub use laws::{
     refusals_name_their_node,
 };
 pub use node::UnaryOp;
+pub use plan::RangePlan;
 pub use steps::Steps;

@@ -3,7 +3,7 @@ use Rattle.std.specs.Prelude.{ℕ, zero, suc, ℤ, pos, negsuc, ◌+ℤ◌, ◌-
 use Rattle.std.specs.Option.{option_and_then, option_map}
 use Rattle.std.specs.Int.{int_min, int_max}
 use Rattle.col_model.specs.Value.{Value, on_slot, on_slots}
-use Rattle.col_model.specs.Arithmetic.{Interval, is_within, WordType, word_values, fitting_value, wrapped_value, floor_by, trunc_by, floor_div, trunc_div, floor_mod, unless_zero}
+use Rattle.col_model.specs.Arithmetic.{Interval, is_within, is_inside, WordType, word_values, fitting_value, wrapped_value, floor_by, trunc_by, floor_div, trunc_div, floor_mod, unless_zero}
 
 -- a formula in the integers x and y of one or two slots
 pub data Formula : Type 0 where
@@ -89,7 +89,7 @@ on_intervals f (Some p) None = None
 on_intervals f (Some p) (Some q) = f p q
 
 -- from the least to the greatest of four integers
-abbrev pub spanned : ℤ → ℤ → ℤ → ℤ → Interval
+unfoldable pub spanned : ℤ → ℤ → ℤ → ℤ → Interval
 spanned a b c d = record { low = int_min (int_min a b) (int_min c d); high = int_max (int_max a b) (int_max c d) }
 
 -- what a function gives at the four pairs of end points
@@ -113,7 +113,7 @@ rest_interval p q =
 
 -- the interval, none where it isn't inside the other
 abbrev pub inside_interval : Interval → Interval → Option Interval
-inside_interval range p = if is_within range p.low && is_within range p.high then Some p else None
+inside_interval range p = if is_inside range p then Some p else None
 
 -- where the values of a formula lie, none where a fit could fail, a wrap could change its value or a divisor could be 0
 abbrev pub interval_of : Formula → Interval → Interval → Option Interval
