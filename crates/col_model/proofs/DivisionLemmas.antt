@@ -203,14 +203,16 @@ pub floor_rest : (x divisor : ℤ) → divisor ≢ pos 0 → IsShortOf divisor (
 floor_rest x (pos zero) h = absurd (h refl)
 floor_rest x (pos (suc k)) h =
     let q = floor_by x (suc k) in
-    let same : pos (suc k) *ℤ q ≡ q *ℤ pos (suc k) = *ℤ_comm (pos (suc k)) q in
-    (omega (arith, ints, same, floor_low x (suc k) (omega arith)),
-    omega (arith, ints, same, floor_high x (suc k) (omega arith)))
+    let same : pos (suc k) *ℤ q ≡ q *ℤ pos (suc k) = *ℤ_comm (pos (suc k)) q in (
+      omega (arith, ints, same, floor_low x (suc k) (omega arith)),
+      omega (arith, ints, same, floor_high x (suc k) (omega arith)),
+    )
 floor_rest x (negsuc k) h =
     let q = floor_by (neg_ℤ x) (suc k) in
-    let same : negsuc k *ℤ q ≡ neg_ℤ (q *ℤ pos (suc k)) = *ℤ_comm (negsuc k) q ∙ times_down q k in
-    (omega (arith, ints, same, floor_high (neg_ℤ x) (suc k) (omega arith)),
-    omega (arith, ints, same, floor_low (neg_ℤ x) (suc k) (omega arith)))
+    let same : negsuc k *ℤ q ≡ neg_ℤ (q *ℤ pos (suc k)) = *ℤ_comm (negsuc k) q ∙ times_down q k in (
+      omega (arith, ints, same, floor_high (neg_ℤ x) (suc k) (omega arith)),
+      omega (arith, ints, same, floor_low (neg_ℤ x) (suc k) (omega arith)),
+    )
 
 back_whole : (x y q : ℤ) → (q *ℤ y) +ℤ (x -ℤ (y *ℤ q)) ≡ x
 back_whole x y q = rw (*ℤ_comm y q) (omega (arith, ints))

@@ -127,9 +127,11 @@ some_inside range (Some a) r h = by_test (is_within range a.low) (is_within rang
         → (if low && high then Some a else None) ≡ Some r
         → (Some a ≡ Some r) × (is_within range r.low ≡ true) × (is_within range r.high ≡ true)
     by_test true true e f h =
-        let same : a ≡ r = cc in
-        (h, ap (λ (i : Interval). is_within range i.low) (sym same) ∙ e,
-        ap (λ (i : Interval). is_within range i.high) (sym same) ∙ f)
+        let same : a ≡ r = cc in (
+          h,
+          ap (λ (i : Interval). is_within range i.low) (sym same) ∙ e,
+          ap (λ (i : Interval). is_within range i.high) (sym same) ∙ f,
+        )
     by_test true false e f h = cc
     by_test false true e f h = cc
     by_test false false e f h = cc
@@ -153,15 +155,19 @@ some_rest p q r = by_test (is_within q (pos 0)) (int_lt (pos 0) q.low) refl refl
         → (is_within q (pos 0) ≡ false) × ((y : ℤ) (rest : ℤ) → IsWithin q y → IsShortOf y rest → IsWithin r rest)
     by_test true above e f h = cc
     by_test false true e f h =
-        let same : record { low = pos 0; high = q.high -ℤ pos 1 } ≡ r = cc in
-        (e, λ y rest v short.
-        let P : Interval → Type 0 = λ i. IsWithin i rest in
-        subst P same (rest_within q y rest true f e v (not_zero q y e v) short))
+        let same : record { low = pos 0; high = q.high -ℤ pos 1 } ≡ r = cc in (
+          e,
+          λ y rest v short.
+              let P : Interval → Type 0 = λ i. IsWithin i rest in
+              subst P same (rest_within q y rest true f e v (not_zero q y e v) short),
+        )
     by_test false false e f h =
-        let same : record { low = q.low +ℤ pos 1; high = pos 0 } ≡ r = cc in
-        (e, λ y rest v short.
-        let P : Interval → Type 0 = λ i. IsWithin i rest in
-        subst P same (rest_within q y rest false f e v (not_zero q y e v) short))
+        let same : record { low = q.low +ℤ pos 1; high = pos 0 } ≡ r = cc in (
+          e,
+          λ y rest v short.
+              let P : Interval → Type 0 = λ i. IsWithin i rest in
+              subst P same (rest_within q y rest false f e v (not_zero q y e v) short),
+        )
 
 -- ---- the induction
 

@@ -6,3 +6,4 @@ pub mod DivisionLemmas
 pub mod WordLemmas
 pub mod IntervalLemmas
 pub mod RoomLemmas
+pub mod TickIntervalLemmas

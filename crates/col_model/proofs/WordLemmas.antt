@@ -106,14 +106,16 @@ more_congruent kept rest x blocks d e f = rw (suc_ℤ-*ℤ blocks (pos d)) (omeg
 signed_kept : (w : Width) (x : ℤ) → IsRead w (unsigned_abs (wrap_unsigned (bit_len w) x))
     → (blocks : ℤ) × (wrap_signed w x +ℤ (blocks *ℤ pos (2 ^ bit_len w)) ≡ x)
 signed_kept w x (inl e) =
-    let k = bit_len w in
-    (blocks_of k x,
-    ap (λ z. z +ℤ (blocks_of k x *ℤ pos (2 ^ k))) (e ∙ rest_natural k x) ∙ rest_congruent k x)
+    let k = bit_len w in (
+      blocks_of k x,
+      ap (λ z. z +ℤ (blocks_of k x *ℤ pos (2 ^ k))) (e ∙ rest_natural k x) ∙ rest_congruent k x,
+    )
 signed_kept w x (inr e) =
-    let k = bit_len w in
-    (suc_ℤ (blocks_of k x),
-    more_congruent (wrap_signed w x) (wrap_unsigned k x) x (blocks_of k x) (2 ^ k)
-    (e ∙ rest_natural k x) (rest_congruent k x))
+    let k = bit_len w in (
+      suc_ℤ (blocks_of k x),
+      more_congruent (wrap_signed w x) (wrap_unsigned k x) x (blocks_of k x) (2 ^ k)
+          (e ∙ rest_natural k x) (rest_congruent k x),
+    )
 
 pub word_keeps : (word : WordType) (x : ℤ) → IsKeptOf word x (wrapped_value word x)
 unfolding wrapped_value

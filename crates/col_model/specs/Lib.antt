@@ -16,3 +16,4 @@ pub mod Laws
 pub mod UnitLaws
 pub mod IntervalLaws
 pub mod IntervalRoom
+pub mod RuleIntervals

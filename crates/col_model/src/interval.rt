@@ -93,7 +93,7 @@ fn spanned(a: i128, b: i128, c: i128, d: i128) -> Interval
 
 /// The sums.
 pub fn sum(p: Interval, q: Interval) -> Interval
-    requires left { IsNear 125 p }
+    requires left { IsNear 126 p }
     requires right { IsNear 125 q }
     ensures ends { result ≡ record { low = p.low +ℤ q.low; high = p.high +ℤ q.high } }
 {
@@ -102,7 +102,7 @@ pub fn sum(p: Interval, q: Interval) -> Interval
 
 /// The differences.
 pub fn difference(p: Interval, q: Interval) -> Interval
-    requires left { IsNear 125 p }
+    requires left { IsNear 126 p }
     requires right { IsNear 125 q }
     ensures ends { result ≡ record { low = p.low -ℤ q.high; high = p.high -ℤ q.low } }
 {

@@ -3,6 +3,7 @@
 
 mod any_value;
 mod cast;
+mod intervals;
 mod laws;
 mod series;
 mod shift;
@@ -16,5 +17,6 @@ pub use any_value::AnyValue;
 pub use col_types::{
     CastOptions, DataType, Kind, OpName, PlSmallStr, PolarsError, PolarsResult, TimeUnit, TimeZone,
 };
+pub use intervals::{cast_interval, unit_interval};
 pub use laws::{own_type_keeps_column, times_lie_in_the_day};
 pub use series::Series;
