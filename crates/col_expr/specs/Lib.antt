@@ -10,4 +10,5 @@ pub mod Found
 pub mod Laws
 pub mod Plan
 pub mod FoundPlan
+pub mod PlanNode
 pub mod PlanLaws

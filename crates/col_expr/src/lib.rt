@@ -8,7 +8,9 @@ mod expr;
 mod inputs;
 mod laws;
 mod node;
+mod node_image;
 mod operations;
+mod part;
 mod plan;
 mod steps;
 #[cfg(test)]
