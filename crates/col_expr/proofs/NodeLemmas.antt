@@ -14,7 +14,7 @@ use Rattle.col_expr.specs.declared.error.EvalError.TheVariants as refusals
 use Rattle.col_expr.specs.Tree.{Tree, Input}
 use Rattle.col_expr.specs.Numbers.{Numbers, One}
 use Rattle.col_expr.specs.Meaning.{row_count, slot_at, slots_of, input_slot, step_count}
-use Rattle.col_expr.specs.Refusal.{at_node, first_refusal, Unless, GivesBy}
+use Rattle.col_expr.specs.Refusal.{at_node, first_refusal, Unless, Gives, GivesBy}
 use Rattle.col_expr.specs.Found.{IsColumnOf, IsFine, IsFineBy, IsFound, IsFoundBy, numbered}
 use Rattle.col_expr.proofs.Slots.{column_slots-own, get_or-column_slots}
 
@@ -44,6 +44,15 @@ found_due inputs refused t (Ok column) (Err error) is gives = Unless-map error (
 found_due inputs refused t (Err e) (Ok x) is gives = cc
 found_due inputs refused t (Err e) (Err error) is gives =
     Unless-map error (λ h. let at : e ≡ error = cc in is ∙ ap Some at) gives
+
+-- the same of an answer that is the column with its chunks
+pub found_whole : (inputs : List Column) (refused : Option EvalError) (t : Tree) (whole : Chunked)
+    (answer : Result Chunked EvalError) → IsFineBy inputs refused t (column_of whole) →
+    Gives answer (Ok whole) → IsFoundBy inputs refused t answer
+found_whole inputs refused t whole (Ok x) is gives =
+    let at : whole ≡ x = cc in
+    let P : Chunked → Type 0 = λ c. IsFineBy inputs refused t (column_of c) in subst P at is
+found_whole inputs refused t whole (Err error) is gives = Unless-map error (λ h. cc) gives
 
 pub row_count-is : (inputs : List Column) (t : Tree) (c : Column) → IsColumnOf inputs t c →
     row_count inputs t ≡ length c.slots
