@@ -1,12 +1,15 @@
 -- What is found of a node, from what is found of its operands; and how plans keep their order.
-use Rattle.std.proofs.Common.{◌≡◌, ℕ, zero, suc, ◌+◌, ◌≤◌, ◌<◌, List, [], ◌∷◌, Bool, true, false, ◌&&◌, Option, Some, None, map, refl, sym, ap, ◌∙◌, subst, arith}
+use Rattle.std.proofs.Common.{◌≡◌, ℕ, ℤ, zero, suc, ◌+◌, ◌≤◌, ◌<◌, List, [], ◌∷◌, Bool, true, false, ◌&&◌, Option, Some, None, map, refl, sym, ap, ◌∙◌, subst, arith, Ordering, Less, Equal, Greater}
 use Rattle.std.specs.Prelude.{slice_get, nat_lt, IfSome, Ok, Err, Result}
 use Rattle.std.specs.List.{list_all, All}
 use Rattle.std.specs.Option.{option_map, ok_or}
 use Rattle.std.specs.Result.{result_ok}
 use Rattle.std.specs.Map.{keys_of}
-use Rattle.std.specs.BTreeMap.{insert_entry}
-use Rattle.std.specs.Ordering.{Ordering, nat_cmp, is_lt, match_ordering}
+use Rattle.std.specs.BTreeMap.{insert_entry, is_at}
+use Rattle.std.specs.Ordering.{nat_cmp, is_lt, match_ordering}
+use Rattle.std.proofs.lemmas.List.Elements.{All-head, All-tail, All-cons}
+use Rattle.std.proofs.lemmas.Map.Entries.{All-lookup}
+use Rattle.col_model.specs.Value.{integer_slot}
 use Rattle.std.proofs.lemmas.Bool.Decides.{nat_tests}
 use Rattle.std.proofs.lemmas.Bool.{and_parts, and_from, false≢true}
 use Rattle.col_types.specs.declared.data_type.DataType.{DataType}
@@ -14,6 +17,7 @@ use Rattle.col_types.specs.declared.operator.BinOp.{BinOp}
 use Rattle.col_types.specs.declared.error.PolarsError.{PolarsError}
 use Rattle.col_model.specs.Arithmetic.{Interval}
 use Rattle.col_model.specs.Column.{Column}
+use Rattle.col_model.specs.Chunked.{Chunked, column_of, columns_of}
 use Rattle.col_model.specs.IntervalRoom.{IsOrdered}
 use Rattle.col_model.specs.OperatorTable.{OperatorRule, operator_rule, listed_rule}
 use Rattle.col_model.specs.RuleIntervals.{typed_interval}
@@ -24,18 +28,23 @@ use Rattle.col_expr.specs.Tree.{Tree, Input, Cast, Binary, ScalarRight, ScalarLe
 use Rattle.col_expr.specs.Numbers.{Numbers, One, number_at, below, left_of, right_of, numbers_from}
 use Rattle.col_expr.specs.Node.{over}
 use Rattle.col_expr.specs.Meaning.{dtype_of, rule_dtype}
-use Rattle.col_expr.specs.Plan.{Plan, interval_in, bound_by, bound_of, image_by, image_of, rule_formula, keeps_rule, rule_holds, rules_hold, ends_before, fits_type, is_image_inside}
-use Rattle.col_expr.specs.PlanNode.{operation_dtype, operation_image, pair_dtype, pair_image, keeps_image, keeps_column, part_dtype, part_bound, image_dtype, image_interval, IsSettled, IsSettledBy, IsPart, IsChecked, IsInputPart, IsInput}
+use Rattle.col_expr.specs.Plan.{Plan, interval_in, covering, is_slot_within, bound_by, bound_of, image_by, image_of, rule_formula, keeps_rule, rule_holds, rules_hold, ends_before, fits_type, is_image_inside}
+use Rattle.col_expr.specs.PlanNode.{operation_dtype, operation_image, pair_dtype, pair_image, keeps_image, keeps_column, part_dtype, part_bound, image_dtype, image_interval, IsSettled, IsSettledBy, IsPart, IsChecked, IsInputPart, IsInput, IsCoverOrdered}
 
 -- ---- plans
 
 -- a plan ends before a number that is past its last
 pub ends_all : (plan : Plan) (last count : ℕ) → All (λ q. is_lt (nat_cmp last q) ≡ false) (keys_of plan) → last < count → ends_before plan count ≡ true
 ends_all [] last count all h = refl
-ends_all (covered ∷ plan) last count (first, all) h =
-    let below : covered.0 ≤ last = grind (arith, nat_tests) in
+ends_all (covered ∷ plan) last count all h =
+    let P : ℕ → Type 0 = λ q. is_lt (nat_cmp last q) ≡ false in
+    let first : is_lt (nat_cmp last covered.0) ≡ false = All-head P covered.0 (keys_of plan) all in
+    let below : covered.0 ≤ last = not_less last covered.0 first in
     let here : nat_lt covered.0 count ≡ true = grind (arith, nat_tests) in
-    and_from _ _ here (ends_all plan last count all h)
+    and_from _ _ here (ends_all plan last count (All-tail P covered.0 (keys_of plan) all) h)
+  where
+    not_less : (m n : ℕ) → is_lt (nat_cmp m n) ≡ false → n ≤ m
+    not_less m n e = grind (arith, nat_tests)
 
 -- and not before one that is not past one of its own
 pub ends_none : (plan : Plan) (i last count : ℕ) (range : Interval) → slice_get plan i ≡ Some (last, range) → nat_lt last count ≡ false → ends_before plan count ≡ false
@@ -58,12 +67,27 @@ ends-last plan i last count range all at = go (nat_lt last count) refl
     go false e = sym (ends_none plan i last count range at e)
 
 -- a further interval in order
-pub put_ordered : (plan : Plan) (node : ℕ) (range : Interval) → All (λ (c : ℕ × Interval). IsOrdered c.1) plan → IsOrdered range → All (λ (c : ℕ × Interval). IsOrdered c.1) (insert_entry nat_cmp plan node range)
-put_ordered [] node range all h = (h, tt)
-put_ordered (covered ∷ plan) node range (first, all) h = go (nat_cmp node covered.0)
+pub put_ordered : (plan : Plan) (node : ℕ) (range : Interval) → All IsCoverOrdered plan → IsOrdered range → All IsCoverOrdered (covering plan node range)
+put_ordered [] node range all h = All-cons IsCoverOrdered (node, range) [] h all
+put_ordered (covered ∷ plan) node range all h = go (nat_cmp node covered.0) (put_ordered plan node range (All-tail IsCoverOrdered covered plan all) h)
   where
-    go : (o : Ordering) → All (λ (c : ℕ × Interval). IsOrdered c.1) (match_ordering o ((node, range) ∷ covered ∷ plan) ((covered.0, range) ∷ plan) (covered ∷ insert_entry nat_cmp plan node range))
-    go = ?
+    go : (o : Ordering) → All IsCoverOrdered (insert_entry nat_cmp plan node range)
+        → All IsCoverOrdered (match_ordering o ((node, range) ∷ covered ∷ plan) ((covered.0, range) ∷ plan) (covered ∷ insert_entry nat_cmp plan node range))
+    go Less rest = All-cons IsCoverOrdered (node, range) (covered ∷ plan) h all
+    go Equal rest = All-cons IsCoverOrdered (covered.0, range) plan h (All-tail IsCoverOrdered covered plan all)
+    go Greater rest = All-cons IsCoverOrdered covered (insert_entry nat_cmp plan node range) (All-head IsCoverOrdered covered plan all) rest
+
+-- what is looked up is in order
+pub looked_up : (plan : Plan) (node : ℕ) (range : Interval) → All IsCoverOrdered plan → interval_in plan node ≡ Some range → IsOrdered range
+looked_up plan node range all e =
+    let found : IfSome (interval_in plan node) IsOrdered = All-lookup IsOrdered (is_at (nat_cmp node)) plan all in
+    let P : Option Interval → Type 0 = λ o. IfSome o IsOrdered in
+    subst P e found
+
+-- slots as they are kept
+pub slots_within : (range : Interval) (ticks : List (Option ℤ)) → list_all (λ tick. is_slot_within range (integer_slot tick)) ticks ≡ list_all (is_slot_within range) (map integer_slot ticks)
+slots_within range [] = refl
+slots_within range (tick ∷ ticks) = ap (λ b. is_slot_within range (integer_slot tick) && b) (slots_within range ticks)
 
 -- ---- operators
 
@@ -148,13 +172,13 @@ unary_checked inputs plan first number op e part planned image result is part_is
     let numbers = numbers_from first (over op e) in
     let here : planned ≡ interval_in plan (number_at numbers) = at ∙ ap (interval_in plan) (is ∙ sym (number-over first op e)) in
     let rules : rules_hold inputs plan numbers (over op e) ≡ keeps_image planned (dtype_of inputs (over op e)) (operation_image op (part_dtype part) (part_bound part)) =
-        rules-over inputs plan first op e
-        ∙ ap (λ b. b && rule_holds inputs plan numbers (over op e)) part_is.held
-        ∙ rule-cast inputs plan numbers op e (interval_in plan (number_at numbers))
-        ∙ ap (λ o. keeps_image o (dtype_of inputs (over op e)) (image_of inputs plan numbers (over op e))) (sym here)
-        ∙ ap (keeps_image planned (dtype_of inputs (over op e))) (image-over inputs plan first op e
-        ∙ ap (λ d. operation_image op d (bound_of inputs plan (numbers_from first e) e)) (sym part_is.typed)
-        ∙ ap (operation_image op (part_dtype part)) (sym part_is.bounded)) in
+    rules-over inputs plan first op e
+    ∙ ap (λ b. b && rule_holds inputs plan numbers (over op e)) part_is.held
+    ∙ rule-cast inputs plan numbers op e (interval_in plan (number_at numbers))
+    ∙ ap (λ o. keeps_image o (dtype_of inputs (over op e)) (image_of inputs plan numbers (over op e))) (sym here)
+    ∙ ap (keeps_image planned (dtype_of inputs (over op e))) (image-over inputs plan first op e
+    ∙ ap (λ d. operation_image op d (bound_of inputs plan (numbers_from first e) e)) (sym part_is.typed)
+    ∙ ap (operation_image op (part_dtype part)) (sym part_is.bounded)) in
     settle inputs plan numbers (over op e) planned image (operation_image op (part_dtype part) (part_bound part)) result here rules
     (typed ∙ ap (operation_dtype op) part_is.typed ∙ sym (dtype-over inputs op e)) imaged settled
 
@@ -176,15 +200,15 @@ binary_checked inputs plan first second number op l r left right planned image r
     let here : planned ≡ interval_in plan (number_at numbers) = at ∙ ap (interval_in plan) (is ∙ ap (λ n. n + node_count r) next) in
     let p = pair_image op (part_dtype left) (part_dtype right) (part_bound left) (part_bound right) in
     let rules : rules_hold inputs plan numbers (Binary op l r) ≡ keeps_image planned (dtype_of inputs (Binary op l r)) p =
-        ap (λ b. b && (rules_hold inputs plan (numbers_from (first + node_count l) r) r && rule_holds inputs plan numbers (Binary op l r))) left_is.held
-        ∙ ap (λ b. b && rule_holds inputs plan numbers (Binary op l r)) right_is.held
-        ∙ rule-binary inputs plan numbers op l r (interval_in plan (number_at numbers))
-        ∙ ap (λ o. keeps_image o (dtype_of inputs (Binary op l r)) (image_of inputs plan numbers (Binary op l r))) (sym here)
-        ∙ ap (keeps_image planned (dtype_of inputs (Binary op l r)))
-        (ap (λ d. pair_image op d (dtype_of inputs r) (bound_of inputs plan (numbers_from first l) l) (bound_of inputs plan (numbers_from (first + node_count l) r) r)) (sym left_is.typed)
-        ∙ ap (λ d. pair_image op (part_dtype left) d (bound_of inputs plan (numbers_from first l) l) (bound_of inputs plan (numbers_from (first + node_count l) r) r)) (sym right_is.typed)
-        ∙ ap (λ b. pair_image op (part_dtype left) (part_dtype right) b (bound_of inputs plan (numbers_from (first + node_count l) r) r)) (sym left_is.bounded)
-        ∙ ap (pair_image op (part_dtype left) (part_dtype right) (part_bound left)) (sym right_is.bounded)) in
+    ap (λ b. b && (rules_hold inputs plan (numbers_from (first + node_count l) r) r && rule_holds inputs plan numbers (Binary op l r))) left_is.held
+    ∙ ap (λ b. b && rule_holds inputs plan numbers (Binary op l r)) right_is.held
+    ∙ rule-binary inputs plan numbers op l r (interval_in plan (number_at numbers))
+    ∙ ap (λ o. keeps_image o (dtype_of inputs (Binary op l r)) (image_of inputs plan numbers (Binary op l r))) (sym here)
+    ∙ ap (keeps_image planned (dtype_of inputs (Binary op l r)))
+    (ap (λ d. pair_image op d (dtype_of inputs r) (bound_of inputs plan (numbers_from first l) l) (bound_of inputs plan (numbers_from (first + node_count l) r) r)) (sym left_is.typed)
+    ∙ ap (λ d. pair_image op (part_dtype left) d (bound_of inputs plan (numbers_from first l) l) (bound_of inputs plan (numbers_from (first + node_count l) r) r)) (sym right_is.typed)
+    ∙ ap (λ b. pair_image op (part_dtype left) (part_dtype right) b (bound_of inputs plan (numbers_from (first + node_count l) r) r)) (sym left_is.bounded)
+    ∙ ap (pair_image op (part_dtype left) (part_dtype right) (part_bound left)) (sym right_is.bounded)) in
     settle inputs plan numbers (Binary op l r) planned image p result here rules
     (typed ∙ ap (λ d. pair_dtype op d (part_dtype right)) left_is.typed ∙ ap (pair_dtype op (dtype_of inputs l)) right_is.typed) imaged settled
 
@@ -219,3 +243,9 @@ input_checked inputs plan number index planned column (Some part) at is input =
           ∙ ap (λ (c : Option Column). keeps_column planned (option_map (λ (d : Column). d.dtype) c) c) (sym is) ∙ input.held;
       known = input.known;
     }
+
+-- the column of an input
+pub column_at : (inputs : List Chunked) (index : ℕ) → option_map column_of (slice_get inputs index) ≡ slice_get (columns_of inputs) index
+column_at [] index = refl
+column_at (input ∷ inputs) zero = refl
+column_at (input ∷ inputs) (suc index) = column_at inputs index

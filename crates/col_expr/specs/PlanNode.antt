@@ -59,6 +59,12 @@ abbrev pub keeps_column : Option Interval → Option DataType → Option Column 
 keeps_column None dtype column = true
 keeps_column (Some range) dtype column = fits_type dtype range && is_column_within range column
 
+-- ---- plans
+
+-- the low end of a covered node's interval isn't above its high one
+abbrev pub IsCoverOrdered : ℕ × Interval → Type 0
+IsCoverOrdered covered = IsOrdered covered.1
+
 -- ---- parts
 
 -- the type of a part

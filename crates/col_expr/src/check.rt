@@ -1,5 +1,6 @@
 // The check of a plan.
 ghost use Rattle.std.specs.Prelude.{◌≡◌, ◌+◌, ◌≤◌, true, Some, None, OnSome, IfSome};
+ghost use Rattle.std.specs.List.{list_all};
 ghost use Rattle.std.specs.Option.{option_copied, option_map};
 ghost use Rattle.col_model.specs.Chunked.{columns_of, column_of};
 ghost use Rattle.col_model.specs.Value.{integer_slot};
@@ -35,12 +36,7 @@ pub fn check_plan(expr: &Expr, inputs: &Inputs, plan: &RangePlan) -> bool
 }
 
 // What is known of a node whose nodes are numbered from `next` on, none where a rule in it fails.
-fn check_node(
-    node: &Node,
-    inputs: &Inputs,
-    plan: &RangePlan,
-    next: &mut u32,
-) -> Option<Part>
+fn check_node(node: &Node, inputs: &Inputs, plan: &RangePlan, next: &mut u32) -> Option<Part>
     requires small { next.old + node_count (node_tree node.now) ≤ max_nodes }
     requires built { is_built_tree (node_tree node.now) ≡ true }
     ensures next { OnSome result (next.new ≡ next.old + node_count (node_tree node.now)) }
@@ -82,16 +78,18 @@ fn is_tick_within(range: Interval, tick: Option<i64>) -> bool
     }
 }
 
+// Whether each tick is null or lies in the interval.
+fn are_ticks_within(range: Interval, ticks: &[Option<i64>]) -> bool
+    ensures within { result ≡ list_all (λ tick. is_slot_within range (integer_slot tick)) ticks.now }
+{
+    ticks.iter().all(|tick| is_tick_within(range, *tick))
+}
+
 // Whether each valid slot of a column lies in the interval.
 fn is_column_within(range: Interval, column: &Series) -> bool
     ensures within { result ≡ is_column_within range (Some column.now.column) }
 {
-    for tick in column.ticks() {
-        if !is_tick_within(range, *tick) {
-            return false;
-        }
-    }
-    true
+    are_ticks_within(range, column.ticks())
 }
 
 // A column, bounded by the plan.
@@ -123,7 +121,7 @@ fn free_input(column: &Series) -> Part
 // An input with what the plan has for it, none where its rule fails.
 fn input_part(column: Option<&Series>, planned: Option<Interval>) -> Option<Part>
     requires ordered { IfSome planned IsOrdered }
-    ensures part { IsInput planned (option_map column_of (option_copied column)) result }
+    ensures part { IsInput planned (option_map column_of (option_copied column.entry)) result }
 {
     match (column, planned) {
         (Some(column), Some(range)) => planned_input(column, range),

@@ -16,9 +16,9 @@ mod steps;
 #[cfg(test)]
 mod tests;
 
+pub use check::check_plan;
 pub use col_series::{CastOptions, DataType, Series, TimeUnit, TimeZone};
 pub use col_types::{BinOp, ScalarOp};
-pub use check::check_plan;
 pub use error::{EvalError, ExprCause, ExprRefused};
 pub use evaluation::evaluate;
 pub use expr::Expr;

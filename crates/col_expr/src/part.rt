@@ -69,12 +69,12 @@ fn planned_part(dtype: DataType, range: Interval, interval: Option<Interval>) ->
     }
 }
 
-/// A node of this type, bounded by its values.
-fn free_part(dtype: DataType) -> Part
+/// A node of this type, bounded by its values, whatever its image.
+fn free_part(dtype: DataType, interval: Option<Interval>) -> Part
     requires built { is_built_type dtype ≡ true }
-    ensures settled { (interval : Option Range) →
-        IsSettled None (Some (dtype, interval)) result }
+    ensures settled { IsSettled None (Some (dtype, interval)) result }
 {
+    let _ = interval;
     let bound = values_of(&dtype);
     Part::Typed(dtype, bound)
 }
@@ -90,7 +90,7 @@ pub(crate) fn settled(
 {
     match (image, planned) {
         (Some((dtype, interval)), Some(range)) => planned_part(dtype, range, interval),
-        (Some((dtype, _)), None) => Some(free_part(dtype)),
+        (Some((dtype, interval)), None) => Some(free_part(dtype, interval)),
         (None, Some(_)) => None,
         (None, None) => Some(Part::Untyped),
     }

@@ -4,7 +4,7 @@ ghost use Rattle.std.specs.Option.{option_map};
 ghost use Rattle.col_types.specs.PolarsError.{Becomes};
 ghost use Rattle.col_model.specs.Arithmetic.{Interval as Range};
 ghost use Rattle.col_model.specs.IntervalRoom.{IsOrdered};
-ghost use Rattle.col_expr.specs.Plan.{ interval_in, covering, ends_before};
+ghost use Rattle.col_expr.specs.Plan.{interval_in, covering, ends_before};
 
 use col_model::Interval;
 use col_types::{PolarsError, PolarsResult};
@@ -22,14 +22,14 @@ pub struct RangePlan {
 impl Model for RangePlan {
     ghost use Rattle.std.specs.Prelude.{ℕ, List};
     ghost use Rattle.std.specs.List.{All};
-    ghost use Rattle.col_model.specs.IntervalRoom.{IsOrdered};
+    ghost use Rattle.col_expr.specs.PlanNode.{IsCoverOrdered};
     ghost use Rattle.col_model.specs.Arithmetic.{Interval as Range};
 
     ghost Value = { List (ℕ × Range) };
 
     ghost view = { λ a. a.intervals.entries };
 
-    ghost invariant = { λ a. All (λ (covered : ℕ × Range). IsOrdered covered.1) a.intervals.entries };
+    ghost invariant = { λ a. All IsCoverOrdered a.intervals.entries };
 }
 
 impl RangePlan {
