@@ -1,14 +1,14 @@
 -- Quotients and rests: what they mean, and where they lie.
-use Rattle.std.specs.Prelude.{◌≡◌, ◌≢◌, ◌+◌, ◌-◌, ◌*◌, ◌/◌, ◌%◌, ◌≤◌, ◌<◌, ◌+ℤ◌, ◌-ℤ◌, ◌*ℤ◌, ◌≤ℤ◌, ◌<ℤ◌, ℕ, ℤ, zero, suc, pos, negsuc, neg_ℤ, Bool, true, false}
-use Rattle.std.proofs.Common.{refl, ap, sym, subst, ◌∙◌, arith, inl, inr, ◌⊎◌}
+use Rattle.std.specs.Prelude.{◌≡◌, ◌≢◌, ◌+◌, ◌*◌, ◌/◌, ◌≤◌, ◌<◌, ◌+ℤ◌, ◌-ℤ◌, ◌*ℤ◌, ◌≤ℤ◌, ◌<ℤ◌, ℕ, ℤ, zero, suc, pos, negsuc, neg_ℤ, false}
+use Rattle.std.proofs.Common.{refl, ap, sym, ◌∙◌, arith, inl, inr, ◌⊎◌}
 use Rattle.std.proofs.lemmas.Int.{ints, by_lt_z}
 use Rattle.std.proofs.Math.IntN.{suc_ℤ, +ℤ_one, suc_ℤ-*ℤ, *ℤ_comm}
 use Rattle.std.proofs.lemmas.Bool.{false≢true, le-leb}
 use Rattle.std.proofs.lemmas.Nat.{div-add-mod', mod_below}
 use borrow.Author.Differences.{up, down, product_is}
 use native.Mathlib.Nat.{div-zero, le_trans, div-mul-le_self, le-div_iff_mul-le, mul-le-mul_right, mul-le-mul_left}
-use Rattle.col_model.specs.Arithmetic.{Interval, is_within, floor_by, trunc_by, floor_div, trunc_div, floor_mod}
-use Rattle.col_model.specs.IntervalLaws.{DoesNotPass, IsFloorQuotient, IsShortOf, DividesDown, DivisionsRoundDown, TruncatesDivisions, DividesByPositive}
+use Rattle.col_model.specs.Arithmetic.{is_within, floor_by, trunc_by, floor_div, trunc_div, floor_mod}
+use Rattle.col_model.specs.IntervalLaws.{IsFloorQuotient, IsShortOf, DivisionsRoundDown, TruncatesDivisions, DividesByPositive}
 
 -- ---- order
 

@@ -1,14 +1,14 @@
 -- The interval of a formula holds its exact value.
-use Rattle.std.proofs.Common.{◌≡◌, ℕ, ℤ, zero, suc, pos, negsuc, ◌≤◌, ◌+ℤ◌, ◌-ℤ◌, ◌*ℤ◌, ◌≤ℤ◌, ◌<ℤ◌, Bool, true, false, ◌&&◌, Option, Some, None, if◌then◌else◌, ◌⊎◌, inl, inr, refl, sym, ap, ◌∙◌, subst, arith}
-use Rattle.std.specs.Prelude.{◌≢◌, int_le, int_lt}
+use Rattle.std.proofs.Common.{◌≡◌, ℤ, zero, suc, pos, negsuc, ◌+ℤ◌, ◌-ℤ◌, ◌*ℤ◌, ◌≤ℤ◌, ◌<ℤ◌, Bool, true, false, ◌&&◌, Option, Some, None, if◌then◌else◌, ◌⊎◌, inl, inr, refl, sym, ap, ◌∙◌, subst, arith}
+use Rattle.std.specs.Prelude.{◌≢◌, int_lt}
 use Rattle.std.specs.Option.{option_and_then, option_map}
 use Rattle.std.specs.Int.{int_min, int_max}
-use Rattle.std.proofs.lemmas.Bool.{and_from, and_parts, false≢true, le-leb}
+use Rattle.std.proofs.lemmas.Bool.{false≢true}
 use Rattle.std.proofs.lemmas.Int.{ints, clamps}
 use Rattle.std.proofs.Math.IntN.{*ℤ_comm}
-use Rattle.col_model.specs.Arithmetic.{Interval, is_within, WordType, word_values, fitting_value, wrapped_value, floor_by, trunc_by, floor_div, trunc_div, floor_mod, unless_zero}
-use Rattle.col_model.specs.Formula.{Formula, X, Y, Constant, Sum, Difference, Product, FloorBy, TruncBy, FloorDiv, TruncDiv, FloorMod, Fit, Wrap, NonZero, on_both, divided, truth_of, value_of, exact_value_of, on_intervals, spanned, at_ends, between_ends, quotient_interval, rest_interval, inside_interval, interval_of}
-use Rattle.col_model.specs.IntervalLaws.{IsShortOf, IsExactIn, IntervalsHold}
+use Rattle.col_model.specs.Arithmetic.{Interval, is_within, word_values, fitting_value, wrapped_value, floor_by, trunc_by, floor_div, trunc_div, floor_mod, unless_zero}
+use Rattle.col_model.specs.Formula.{Formula, X, Y, Constant, Sum, Difference, Product, FloorBy, TruncBy, FloorDiv, TruncDiv, FloorMod, Fit, Wrap, NonZero, truth_of, value_of, exact_value_of, on_intervals, spanned, at_ends, quotient_interval, rest_interval, inside_interval, interval_of}
+use Rattle.col_model.specs.IntervalLaws.{IsShortOf, IntervalsHold}
 use Rattle.col_model.proofs.DivisionLemmas.{Between, floor_mono, trunc_mono, floor_between, trunc_between, product_between, floor_turn, trunc_turn, floor_rest}
 use Rattle.col_model.proofs.WithinLemmas.{IsWithin, is_within-true, within_from, trans, inside_from}
 use Rattle.col_model.proofs.WordLemmas.{wrapped_value-within}

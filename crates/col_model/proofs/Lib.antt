@@ -1,4 +1,5 @@
 pub mod ChainLemmas
+pub mod TableLemmas
 pub mod UnitLemmas
 pub mod WrapLemmas
 pub mod WithinLemmas
