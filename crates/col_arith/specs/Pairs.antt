@@ -1,5 +1,6 @@
 -- Rows of two lists of ticks under a rule of the operator table.
-use Rattle.std.specs.Prelude.{ℕ, ℤ, List, length, map, Option, None, slice_index_or, nat_eq, if◌then◌else◌}
+use Rattle.std.specs.Prelude.{ℕ, ℤ, nat_eq, if◌then◌else◌, List, length, map, slice_index_or}
+use Rattle.std.specs.Prelude.{Option, None}
 use Rattle.std.specs.List.{range_with_len}
 use Rattle.col_model.specs.Broadcast.{operand_row}
 use Rattle.col_arith.specs.declared.pair_rule.PairRule.{PairRule}
