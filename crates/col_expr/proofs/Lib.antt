@@ -7,3 +7,4 @@ pub mod BinaryLemmas
 pub mod InputsLemmas
 pub mod DefinedLemmas
 pub mod CauseLemmas
+pub mod PlanNodeLemmas

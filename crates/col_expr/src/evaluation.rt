@@ -71,7 +71,7 @@ fn evaluate_node<L: Ledger>(
 }
 
 // The number of the next node.
-fn take_number(next: &mut u32) -> u32
+pub(crate) fn take_number(next: &mut u32) -> u32
     requires small { next.old < max_nodes }
     ensures number { result ≡ next.old }
     ensures next { next.new ≡ next.old + 1 }

@@ -1,17 +1,22 @@
 //! Expressions over columns: building one, and evaluating it.
 #![tactic(auto)]
 
+mod check;
 mod error;
 mod evaluation;
 mod expr;
 mod inputs;
 mod laws;
 mod node;
+mod node_image;
 mod operations;
+mod part;
+mod plan;
 mod steps;
 #[cfg(test)]
 mod tests;
 
+pub use check::check_plan;
 pub use col_series::{CastOptions, DataType, Series, TimeUnit, TimeZone};
 pub use col_types::{BinOp, ScalarOp};
 pub use error::{EvalError, ExprCause, ExprRefused};
@@ -23,4 +28,5 @@ pub use laws::{
     refusals_name_their_node,
 };
 pub use node::UnaryOp;
+pub use plan::RangePlan;
 pub use steps::Steps;

@@ -33,6 +33,7 @@ le_greatest a b v (inr h) = omega (arith, ints, clamps)
 
 -- what lies between two values, each of which lies between two corners
 pub cornered : (a b c d u w v : ℤ) → Between a b u → Between c d w → Between u w v → IsWithin (spanned a b c d) v
+unfolding spanned
 cornered a b c d u w v first second (inl (l, h)) = record {
   low = least_le _ _ _ (inl (trans _ _ _ (between_ends-low a b u first) l));
   high = le_greatest _ _ _ (inr (trans _ _ _ h (between_ends-high c d w second)));

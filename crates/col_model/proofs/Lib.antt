@@ -6,3 +6,5 @@ pub mod WithinLemmas
 pub mod DivisionLemmas
 pub mod WordLemmas
 pub mod IntervalLemmas
+pub mod RoomLemmas
+pub mod TickIntervalLemmas

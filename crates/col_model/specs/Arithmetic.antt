@@ -17,6 +17,10 @@ pub record Interval : Type 0 where
 abbrev pub is_within : Interval → ℤ → Bool
 is_within range x = int_le range.low x && int_le x range.high
 
+-- whether both ends of an interval lie in another
+abbrev pub is_inside : Interval → Interval → Bool
+is_inside range inner = is_within range inner.low && is_within range inner.high
+
 -- a word: signed or unsigned, and its width in bits
 pub data WordType : Type 0 where
   Signed : Width → WordType

@@ -4,7 +4,7 @@ use Rattle.std.specs.Prelude.{None, if◌then◌else◌, int_lt}
 use Rattle.std.specs.Option.{option_and_then, option_map}
 use Rattle.std.specs.Int.{int_min, int_max}
 use Rattle.col_model.specs.Value.{Value, on_slot, on_slots}
-use Rattle.col_model.specs.Arithmetic.{Interval, is_within, WordType, word_values, fitting_value}
+use Rattle.col_model.specs.Arithmetic.{Interval, is_within, is_inside, WordType, word_values, fitting_value}
 use Rattle.col_model.specs.Arithmetic.{wrapped_value, floor_by, trunc_by, floor_div, trunc_div}
 use Rattle.col_model.specs.Arithmetic.{floor_mod, unless_zero}
 
@@ -99,7 +99,7 @@ on_intervals f (Some p) None = None
 on_intervals f (Some p) (Some q) = f p q
 
 -- from the least to the greatest of four integers
-abbrev pub spanned : ℤ → ℤ → ℤ → ℤ → Interval
+unfoldable pub spanned : ℤ → ℤ → ℤ → ℤ → Interval
 spanned a b c d =
     record { low = int_min (int_min a b) (int_min c d); high = int_max (int_max a b) (int_max c d) }
 
@@ -124,7 +124,7 @@ rest_interval p q =
 
 -- the interval, none where it isn't inside the other
 abbrev pub inside_interval : Interval → Interval → Option Interval
-inside_interval range p = if is_within range p.low && is_within range p.high then Some p else None
+inside_interval range p = if is_inside range p then Some p else None
 
 -- where the values of a formula lie, none where a fit could fail, a wrap could change its value or
 -- a divisor could be 0

@@ -20,3 +20,5 @@ pub mod IntervalLaws
 pub mod ChunkCalls
 pub mod Words
 pub mod Items
+pub mod IntervalRoom
+pub mod RuleIntervals
