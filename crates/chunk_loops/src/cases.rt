@@ -5,7 +5,7 @@ use anyhow::{Result, bail};
 use col_chunk::Int64Chunked;
 use std::alloc::{AllocError, Global};
 
-const ROWS: [usize; 6] = [0, 1, 63, 64, 65, 129];
+const ROWS: [u32; 6] = [0, 1, 63, 64, 65, 129];
 
 const NULLS: [Nulls; 3] = [Nulls::None, Nulls::All, Nulls::EverySecond];
 
@@ -20,11 +20,11 @@ const SHAPES: [Shape; 5] = [
 /// How many cases hold. Fails at the first that does not.
 pub fn held(alloc: Global) -> Result<u32> {
     let mut held = 0u32;
-    for rows in ROWS {
-        for nulls in NULLS {
-            for shape in SHAPES {
-                let slots = table(alloc, nulls, rows)?;
-                let column = shaped(alloc, shape, slots.as_slice())?;
+    for rows in &ROWS {
+        for nulls in &NULLS {
+            for shape in &SHAPES {
+                let slots = table(alloc, *nulls, *rows)?;
+                let column = shaped(alloc, *shape, slots.as_slice())?;
                 let case = format!(in alloc; "table {held} of {rows} rows")?;
                 expect(has(&column, slots.as_slice()), case.as_str(), "get")?;
                 parts_hold(alloc, &column, slots.as_slice(), case.as_str())?;

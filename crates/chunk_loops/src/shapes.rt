@@ -18,11 +18,11 @@ pub enum Shape {
     OneChunk,
     ChunksOfOne,
     /// A slice that begins so many rows into its chunk.
-    SliceAt(usize),
+    SliceAt(u32),
 }
 
 /// The slots of a table.
-pub fn table(alloc: Global, nulls: Nulls, rows: usize) -> PolarsResult<Vec<Option<i64>>> {
+pub fn table(alloc: Global, nulls: Nulls, rows: u32) -> PolarsResult<Vec<Option<i64>>> {
     let mut slots = Vec::new(alloc);
     for row in 0..rows {
         let valid = match nulls {
@@ -30,7 +30,7 @@ pub fn table(alloc: Global, nulls: Nulls, rows: usize) -> PolarsResult<Vec<Optio
             Nulls::All => false,
             Nulls::EverySecond => row % 2 == 0,
         };
-        slots.push(if valid { Some(row as u32 as i64) } else { None })?;
+        slots.push(if valid { Some(i64::from(row)) } else { None })?;
     }
     Ok(slots)
 }
@@ -66,7 +66,7 @@ pub fn shaped(alloc: Global, shape: Shape, slots: &[Option<i64>]) -> PolarsResul
             let mut around = table(alloc, Nulls::EverySecond, offset)?;
             around.extend_from_slice(slots)?;
             around.push(Some(-1))?;
-            column_of(alloc, around.as_slice())?.slice(alloc, offset as u32 as i64, slots.len())
+            column_of(alloc, around.as_slice())?.slice(alloc, i64::from(offset), slots.len())
         }
     }
 }

@@ -3,7 +3,7 @@ use Rattle.std.specs.Prelude.{◌≡◌, ◌+◌, ◌-◌, ◌*◌, ◌/◌, ◌
 use Rattle.std.specs.Int.{bit_at}
 use Rattle.std.specs.Int.RustNames.{bit_or}
 use Rattle.col_buffer.specs.Validity.{AddsWord, valid_at, valid_count}
-use Rattle.std.proofs.Common.{ap, sym, ◌∙◌, arith, add-zero, zero-add, add_comm, add_assoc, refl, inl, inr, get_or, mod-lt, length-take, length-set, length-append, get_or-set_same, get_or-set_other}
+use Rattle.std.proofs.Common.{ap, sym, ◌∙◌, arith, add-zero, zero-add, add_assoc, refl, inl, inr, get_or, mod-lt, length-take, length-set, length-append, get_or-set_same, get_or-set_other}
 use Rattle.std.proofs.lemmas.Bool.{cases_lt}
 use Rattle.std.proofs.lemmas.List.{get_or-replicate, get_or-take, get_or_append_left, get_or_push, get_or_read}
 use Rattle.std.proofs.lemmas.Nat.{shr-shr, shr_split, pow_pos, ones_cat, ones_le_self, zero_from_ones}

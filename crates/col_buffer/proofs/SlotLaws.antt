@@ -1,22 +1,22 @@
 -- Laws of slots that are kept as values and bits.
 use Rattle.std.specs.Prelude.{◌≡◌, ◌+◌, ◌≤◌, ◌<◌, ℕ, ℤ, Bool, count_by, is_none, is_some, if◌then◌else◌, List, [], ◌∷◌, ◌++◌, Option, Some, None, length, take, drop, slice_index_or, zero, suc}
-use Rattle.std.proofs.Common.{refl, subst, ap, sym, ◌∙◌, arith, add-zero, get_or, length-take, length-drop}
+use Rattle.std.proofs.Common.{refl, ap, sym, ◌∙◌, arith, add-zero, get_or, length-take, length-drop}
 use Rattle.std.proofs.lemmas.List.{get_or-take, get_or-drop}
 use Rattle.std.specs.Prelude.{◌≢◌, ◌*◌, ◌/◌, ◌%◌, ◌^◌, ◌==◌, slice_set}
 use Rattle.std.specs.Int.{bit_at}
 use Rattle.std.specs.List.{list_all}
 use Rattle.std.proofs.lemmas.List.Sums.{sum_by-cons}
 use Rattle.std.proofs.Common.{inl, inr, mod-lt, length-set, set-set, get_or-set_same, get_or-set_other}
-use Rattle.std.proofs.lemmas.Bool.{cases_eq, cases_lt}
+use Rattle.std.proofs.lemmas.Bool.{cases_eq}
 use Rattle.std.proofs.lemmas.Nat.{div-add-mod', div_below}
 use Rattle.std.proofs.lemmas.List.{drop-set-add}
 use Rattle.std.proofs.Math.Seq.{take-set-lt}
-use Rattle.std.specs.Prelude.{Result, Ok, Err, OnOk, OnErr, replicate, ◌-◌, false, true, ◌&&◌, min}
+use Rattle.std.specs.Prelude.{Result, Ok, Err, OnOk, OnErr, replicate, ◌-◌, false, true, ◌&&◌}
 use Rattle.std.proofs.lemmas.List.{length-replicate, get_or-replicate}
 use Rattle.std.proofs.lemmas.Nat.Bits.{bit_at_ones, bit_at-zero}
 use Rattle.col_buffer.specs.Validity.{AddsValid, AddsRange, masked, slot_if, valid_at, valid_count, Reaches, SetsBit, SetsValid}
 use Rattle.col_model.specs.Value.{Value, whole}
-use Rattle.std.proofs.lemmas.List.{drop-take, take-take, drop-drop, set-get_or, take_all, drop_more, append_assoc, get_or_append_left, get_or_push, drop-append-le, take-append-drop, map-append, length-append, length-map, drop_all}
+use Rattle.std.proofs.lemmas.List.{drop-take, take-take, drop-drop, drop_more, append_assoc}
 
 -- a part of a part
 pub part-part : {X : Type 0} (xs : List X) (o m k n : ℕ) → k + n ≤ m → take n (drop k (take m (drop o xs))) ≡ take n (drop (o + k) xs)

@@ -1,8 +1,8 @@
 -- Slots that are moved, as pieces of the list and row by row.
-use Rattle.std.specs.Prelude.{◌≡◌, ◌+◌, ◌-◌, ◌≤◌, ◌<◌, ◌-ℤ◌, ◌++◌, ℕ, suc, ℤ, pos, negsuc, min, Bool, true, false, nat_lt, List, length, map, take, drop, replicate, slice_index_or, Option, Some, None, if◌then◌else◌}
+use Rattle.std.specs.Prelude.{◌≡◌, ◌+◌, ◌-◌, ◌≤◌, ◌<◌, ◌-ℤ◌, ◌++◌, ℕ, suc, ℤ, pos, negsuc, min, Bool, List, length, take, drop, replicate, slice_index_or, Option, Some, None, if◌then◌else◌}
 use Rattle.std.specs.List.{range_with_len}
 use Rattle.std.specs.Option.{option_and_then}
-use Rattle.std.proofs.Common.{refl, ap, sym, ◌∙◌, arith, inl, inr, get_or, length-take, length-drop, length-append}
+use Rattle.std.proofs.Common.{ap, sym, ◌∙◌, arith, inl, inr, get_or, length-take, length-drop, length-append}
 use Rattle.std.proofs.lemmas.Bool.{cases_lt, lt-ltb, le-ltb}
 use Rattle.std.proofs.lemmas.Int.{ints}
 use Rattle.std.proofs.lemmas.List.{same_lists, length-map, length-replicate, get_or-map, get_or-replicate, get_or-take, get_or-drop, get_or_append_left, get_or-append_right, get_or_default}

@@ -1,11 +1,11 @@
 -- The laws by which chunks of words close.
-use Rattle.std.specs.Prelude.{◌≡◌, ◌+◌, ◌-◌, ◌≤◌, ◌<◌, ℕ, zero, suc, ℤ, List, [], ◌∷◌, ◌++◌, Bool, Option, Some, None, length, take, drop, is_some, is_none, count_by, slice_index_or, Result, Ok, Err, OnOk}
+use Rattle.std.specs.Prelude.{◌≡◌, ◌+◌, ◌-◌, ◌≤◌, ◌<◌, ℕ, zero, suc, ℤ, List, [], ◌∷◌, ◌++◌, Option, Some, None, length, take, drop, is_some, is_none, count_by, slice_index_or, Result, Ok, Err, OnOk}
 use Rattle.std.proofs.Common.{refl, subst, ap, sym, ◌∙◌, arith, add-zero, length-take, length-drop}
 use Rattle.std.proofs.lemmas.List.{length-map, take_all}
 use Rattle.col_chunk.specs.Chunks.{word_slots}
 use Rattle.col_model.specs.Value.{Value, whole}
 use Rattle.col_model.specs.ChunkCalls.{null_count}
-use Rattle.col_buffer.specs.Validity.{AddsRange, masked, slot_if, valid_at, valid_count}
+use Rattle.col_buffer.specs.Validity.{AddsRange, masked, valid_at, valid_count}
 use Rattle.col_buffer.proofs.SlotLaws.{length-masked, length-part, masked-append, masked-push, masked-part, masked-range, nulls-masked, part_is, size_is, valid-slot, Reaches-le, repeated_are}
 
 -- a part of others behind values

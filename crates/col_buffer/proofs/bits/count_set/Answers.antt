@@ -1,4 +1,4 @@
-use Rattle.std.proofs.Common.{arith, ap, ◌≡◌, sym, ◌∙◌, ◌+◌, ◌-◌, ◌*◌, ℕ, Some, true, false, add-zero}
+use Rattle.std.proofs.Common.{arith, ap, ◌≡◌, sym, ◌∙◌, ◌+◌, ◌-◌, ◌*◌, Some, true, false, add-zero}
 use Rattle.std.proofs.lemmas.Nat.{ones-le}
 use Rattle.col_buffer.specs.Validity.{valid_count}
 use Rattle.col_buffer.proofs.BitLaws.{valid_count-le, count-more, valid_count-ones, read-word, count-step}

@@ -1,4 +1,4 @@
-use Rattle.std.proofs.Common.{arith, ◌∙◌, ◌+◌, ◌-◌, ◌*◌, ◌/◌, ◌%◌, ◌≡◌, ◌<◌, ◌^◌}
+use Rattle.std.proofs.Common.{arith, ◌-◌, ◌/◌, ◌%◌, ◌<◌, ◌^◌}
 use Rattle.col_buffer.proofs.BitLaws.{push-across, high_again}
 use Rattle.col_buffer.proofs.bits.push_word.Goals as goal
 

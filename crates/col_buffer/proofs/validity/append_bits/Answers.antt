@@ -1,4 +1,4 @@
-use Rattle.std.proofs.Common.{arith, ◌∙◌, ◌+◌}
+use Rattle.std.proofs.Common.{arith}
 use Rattle.std.specs.Option.{option_map}
 use Rattle.col_buffer.proofs.BitLaws.{range-step}
 use Rattle.col_buffer.proofs.validity.append_bits.Goals as goal

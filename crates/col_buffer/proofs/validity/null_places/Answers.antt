@@ -1,6 +1,4 @@
-use Rattle.std.proofs.Common.{arith, ap, ◌∙◌, ◌+◌, ◌-◌, ℕ, Some}
-use Rattle.std.specs.Option.{option_map}
-use Rattle.col_buffer.specs.Validity.{valid_count}
+use Rattle.std.proofs.Common.{arith, Some}
 use Rattle.col_buffer.proofs.BitLaws.{valid_count-le, valid_count-none}
 use Rattle.col_buffer.proofs.validity.null_places.Goals as goal
 

@@ -1,5 +1,4 @@
 use Rattle.std.proofs.Common.{◌≡◌, take, true}
-use Rattle.std.specs.Prelude.{Bool}
 use Rattle.std.specs.List.{list_all}
 use Rattle.col_chunk.specs.Chunks.{joined}
 use Rattle.col_chunk.proofs.array.all_known.Given as goal

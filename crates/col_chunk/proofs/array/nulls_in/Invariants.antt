@@ -1,4 +1,4 @@
-use Rattle.std.proofs.Common.{◌≡◌, ◌+◌, ◌<◌, ◌^◌, drop, length}
+use Rattle.std.proofs.Common.{◌≡◌, ◌+◌, drop}
 use Rattle.col_model.specs.ChunkCalls.{null_count}
 use Rattle.col_chunk.specs.Chunks.{joined}
 use Rattle.col_chunk.proofs.array.nulls_in.Given as goal

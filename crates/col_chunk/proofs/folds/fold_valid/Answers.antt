@@ -1,4 +1,4 @@
-use Rattle.std.proofs.Common.{arith, ap, ◌≡◌, ◌∙◌, ◌+◌, ◌*◌, ◌-◌, ◌<◌, min, Some, ℕ, ◌==◌, length}
+use Rattle.std.proofs.Common.{arith, ap, ◌≡◌, ◌+◌, ◌*◌, ◌<◌, min, Some, ℕ, ◌==◌, length}
 use Rattle.col_chunk.proofs.FoldLaws.{runs-step}
 use Rattle.col_chunk.proofs.folds.fold_valid.Goals as goal
 

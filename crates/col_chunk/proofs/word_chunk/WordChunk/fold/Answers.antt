@@ -1,4 +1,4 @@
-use Rattle.std.proofs.Common.{arith, ap, ◌≡◌, ◌<◌, ◌+◌, ◌-◌, ◌∙◌, length, take, drop, rules, length-take, length-drop}
+use Rattle.std.proofs.Common.{arith, ap, ◌≡◌, ◌<◌, ◌+◌, ◌-◌, ◌∙◌, length, drop, rules, length-take, length-drop}
 use Rattle.std.specs.Prelude.{fold}
 use Rattle.std.specs.Option.{option_map}
 use Rattle.col_model.specs.Words.{integers_of}

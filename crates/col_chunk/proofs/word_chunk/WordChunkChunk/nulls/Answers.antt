@@ -1,4 +1,4 @@
-use Rattle.std.proofs.Common.{ap, ◌∙◌, ◌/◌, ◌+◌}
+use Rattle.std.proofs.Common.{◌∙◌, ◌/◌, ◌+◌}
 use Rattle.col_buffer.proofs.SlotLaws.{nulls_are}
 use Rattle.col_chunk.proofs.word_chunk.WordChunkChunk.nulls.Goals as goal
 

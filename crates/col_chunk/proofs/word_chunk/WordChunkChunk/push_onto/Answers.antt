@@ -1,6 +1,5 @@
-use Rattle.std.proofs.Common.{Vec, Global, ap, ◌∙◌, ◌+◌, ◌++◌, ◌∷◌, [], get_or, List, Option}
-use Rattle.col_model.specs.Value.{Value}
-use Rattle.col_buffer.proofs.SlotLaws.{got, on_ok}
+use Rattle.std.proofs.Common.{Vec, Global, ap, ◌∙◌, ◌+◌, get_or}
+use Rattle.col_buffer.proofs.SlotLaws.{got}
 use Rattle.col_chunk.proofs.word_chunk.WordChunkChunk.push_onto.Goals as goal
 
 pub returns : goal.returns
