@@ -1,6 +1,6 @@
 // How ticks of one unit become ticks of another.
-ghost use Rattle.std.specs.Prelude.{◌≡◌, ℤ, pos, Some};
-ghost use Rattle.std.specs.Int.{w32};
+ghost use Rattle.std.specs.Prelude.{◌≡◌, ◌<◌, ℤ, pos, Some};
+ghost use Rattle.std.specs.Int.{w32, int_div_euclid};
 ghost use Rattle.col_types.specs.TimeUnit.{ticks_per_day};
 ghost use Rattle.col_model.specs.Arithmetic.{Signed, word_values, fitting_value, wrapped_value};
 ghost use Rattle.col_model.specs.Formula.{X, Y, value_of};
@@ -47,8 +47,23 @@ fn in_finer_unit(tick: i64, factor: u32) -> Option<i64>
     tick.checked_mul(i64::from(factor))
 }
 
+/// The quotient rounded down. The processor divides by a number that the code names faster.
+#[inline(always)]
+fn floor_quotient(tick: i64, factor: u32) -> i64
+    requires factor { 0 < factor }
+    ensures value { result ≡ int_div_euclid tick (pos factor) }
+{
+    match factor {
+        1_000 => tick.div_euclid(1_000),
+        1_000_000 => tick.div_euclid(1_000_000),
+        1_000_000_000 => tick.div_euclid(1_000_000_000),
+        _ => tick.div_euclid(i64::from(factor)),
+    }
+}
+
 /// A moment after a change of unit: rounded down in a coarser one, none where a finer one leaves
 /// 64 bits.
+#[inline(always)]
 pub fn datetime_by(tick: i64, change: UnitChange) -> Option<i64>
     requires proper { IsProper change }
     ensures value { result ≡ value_of (datetime_by change X) tick tick }
@@ -58,7 +73,7 @@ pub fn datetime_by(tick: i64, change: UnitChange) -> Option<i64>
     match change {
         UnitChange::Finer(factor) => in_finer_unit(tick, factor),
         UnitChange::Same => Some(tick),
-        UnitChange::Coarser(factor) => Some(tick.div_euclid(i64::from(factor))),
+        UnitChange::Coarser(factor) => Some(floor_quotient(tick, factor)),
     }
 }
 
@@ -128,12 +143,25 @@ pub fn wrapped_day(day: i64) -> i64
     i64::from(low.cast_signed())
 }
 
+/// The number of a moment's day.
+#[inline(always)]
+fn day_number(tick: i64, unit: TimeUnit) -> i64
+    ensures value { result ≡ int_div_euclid tick (pos (ticks_per_day unit)) }
+{
+    match unit {
+        TimeUnit::Nanoseconds => tick.div_euclid(86_400_000_000_000),
+        TimeUnit::Microseconds => tick.div_euclid(86_400_000_000),
+        TimeUnit::Milliseconds => tick.div_euclid(86_400_000),
+    }
+}
+
 /// The day of a moment. Where the word of dates doesn't hold it: none, or, where the cast may
 /// overflow, wrapped.
+#[inline(always)]
 pub fn day_of(tick: i64, unit: TimeUnit, options: CastOptions) -> Option<i64>
     ensures value { result ≡ value_of (day_of options unit) tick tick }
 {
-    let day = tick.div_euclid(ticks_per_day(unit));
+    let day = day_number(tick, unit);
     match options {
         CastOptions::Strict | CastOptions::NonStrict => fitting_day(day),
         CastOptions::Overflowing => Some(wrapped_day(day)),

@@ -72,7 +72,7 @@ pub(crate) fn answer_to<S: Source, L: Ledger>(
     match command {
         Command::Eval => {
             let bytes = read_all(alloc, source)?;
-            Ok(answer_to_script(alloc, &bytes, steps)?)
+            Ok(answer_to_script(alloc, bytes, steps)?)
         }
         Command::Help => Ok(help(alloc)?),
         Command::Version => Ok(told(alloc, VERSION)?),
@@ -99,16 +99,18 @@ fn told(alloc: Global, text: &str) -> Result<Answer, AllocError>
 /// The answer to a script, or its first bad line.
 fn answer_to_script<L: Ledger>(
     alloc: Global,
-    bytes: &[u8],
+    bytes: Vec<u8>,
     steps: &mut Steps<L>,
 ) -> Result<Answer, AllocError>
-    requires short { length bytes.now ≤ MAX_SCRIPT }
-    ensures text { IfOk result (λ a. a.text.items ≡ (reply_to_script (script_of bytes.now)).text) }
-    ensures status { IfOk result (λ a. a.status ≡ (reply_to_script (script_of bytes.now)).status) }
+    requires short { length bytes.items ≤ MAX_SCRIPT }
+    ensures text { IfOk result (λ a. a.text.items ≡ (reply_to_script (script_of bytes.items)).text) }
+    ensures status { IfOk result (λ a. a.status ≡ (reply_to_script (script_of bytes.items)).status) }
     ensures answer { IfOk result (λ a. IsAnswer a.status) }
 {
-    match read_script(alloc, bytes) {
-        Ok(script) => answer_to_expression(alloc, &script, steps),
+    let script = read_script(alloc, bytes.as_slice());
+    drop(bytes);
+    match script {
+        Ok(script) => answer_to_expression(alloc, script, steps),
         Err(col_text::ReadError::BadLine { line }) => Ok(Answer {
             text: bad_line_text(alloc, line)?,
             status: Status::BadScript,
@@ -120,16 +122,18 @@ fn answer_to_script<L: Ledger>(
 /// The column of the script's expression, or its first refused node.
 fn answer_to_expression<L: Ledger>(
     alloc: Global,
-    script: &Script,
+    script: Script,
     steps: &mut Steps<L>,
 ) -> Result<Answer, AllocError>
     ensures text { IfOk result (λ a.
-        a.text.items ≡ (reply_to_outcome (outcome script.now.inputs script.now.expr)).text) }
+        a.text.items ≡ (reply_to_outcome (outcome script.inputs script.expr)).text) }
     ensures status { IfOk result (λ a.
-        a.status ≡ (reply_to_outcome (outcome script.now.inputs script.now.expr)).status) }
+        a.status ≡ (reply_to_outcome (outcome script.inputs script.expr)).status) }
     ensures answer { IfOk result (λ a. IsAnswer a.status) }
 {
-    match evaluate(alloc, &script.expr, &script.inputs, steps) {
+    let outcome = evaluate(alloc, &script.expr, &script.inputs, steps);
+    drop(script);
+    match outcome {
         Ok(column) => Ok(Answer {
             text: answer_text(alloc, &column)?,
             status: Status::Done,

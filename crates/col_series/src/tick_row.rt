@@ -32,6 +32,7 @@ pub(crate) enum TickRow {
 }
 
 /// A tick under the row.
+#[inline(always)]
 pub(crate) fn changed_tick(row: TickRow, tick: i64) -> Option<i64>
     requires proper { IsProper row }
     ensures value { result ≡ changed_tick row tick }
@@ -63,6 +64,7 @@ fn is_same(row: TickRow) -> bool
 }
 
 /// A slot under the row.
+#[inline(always)]
 fn changed_slot(row: TickRow, slot: Option<i64>) -> Option<i64>
     requires proper { IsProper row }
     ensures value { result ≡ option_and_then (changed_tick row) slot }

@@ -1,4 +1,6 @@
 pub mod NumberLemmas
+pub mod TickLemmas
+pub mod FrontLemmas
 pub mod TextLemmas
 pub mod SlotLemmas
 pub mod ExpressionLemmas

@@ -1,5 +1,5 @@
 -- The texts of answers.
-use Rattle.std.specs.Prelude.{ℕ, ◌++◌, List, [], ◌∷◌, Option, Some, None, length, codes}
+use Rattle.std.specs.Prelude.{ℕ, ℤ, ◌++◌, List, [], ◌∷◌, Option, Some, None, length, codes}
 use Rattle.std.specs.List.{flat_map}
 use Rattle.std.specs.Fmt.{decimal, signed_decimal}
 use Rattle.col_model.specs.Value.{Value, Flat, Nested, Whole, Bytes}
@@ -27,6 +27,11 @@ seen_text (date day) = signed_decimal day
 seen_text (datetime tick unit _) = signed_decimal tick
 seen_text (duration tick unit) = signed_decimal tick
 seen_text (time tick) = signed_decimal tick
+
+-- the same of an integer or null
+abbrev pub tick_text : Option ℤ → List ℕ
+tick_text None = codes "null"
+tick_text (Some x) = signed_decimal x
 
 -- the line of the name, the type and the number of rows
 abbrev pub header_text : Column → List ℕ

@@ -7,7 +7,7 @@ mod words;
 
 pub use lines::{content, first_line, line_count};
 pub use tokens::{Token, Tokens};
-pub use words::first_token;
+pub use words::{first_token, skip_blanks};
 
 #[cfg(test)]
 mod tests;

@@ -6,10 +6,12 @@ ghost use Rattle.std.specs.Str.Lines.{strip_carriage_return};
 ghost use Rattle.col_token.specs.Lines.{lines_of, is_line_feed};
 ghost use Rattle.col_token.specs.Places.{longest_text};
 
+use memchr::memchr;
+
 fn first_line_feed(text: &[u8]) -> Option<usize>
     ensures place { result ≡ position is_line_feed text.now }
 {
-    text.iter().position(|byte| *byte == b'\n')
+    memchr(b'\n', text)
 }
 
 /// The first line of a text that is not empty, without its line feed, and what follows that.
