@@ -15,9 +15,9 @@ use Rattle.col_series.proofs.TypeLemmas.{by_built_type}
 use Rattle.col_model.specs.ColumnCalls.{column_from, first_unfit, is_unfit}
 use Rattle.col_series.specs.Slots.{is_fit, ticks_column}
 use Rattle.col_series.proofs.ColumnLemmas.{unrefused_fit}
-use Rattle.col_text.specs.Slots.{column_with, ends_chunk, slot_of, slots_of, slots_by, slots_after_by, is_slot_within, fitting_slot, slot_in, slots_in_type, short_column, held_values, IsFrontTick, with_front, with_first}
-use Rattle.col_text.specs.declared.column.Held.{Held}
-use Rattle.col_text.specs.declared.column.Held.TheVariants.{Days, Times, Words}
+use Rattle.col_text.specs.Slots.{column_with, ends_chunk, slot_of, slots_of, slots_by, slots_after_by, is_slot_within, fitting_slot, slot_in, slots_in_type, short_column, interval_of, IsFrontTick, with_front, with_first}
+use Rattle.col_text.specs.declared.column.TickRange.{TickRange}
+use Rattle.col_text.specs.declared.column.TickRange.TheVariants.{Days, TimesOfDay, Words}
 use Rattle.col_text.specs.Numbers.{integer_of, tick_fit, tick_of}
 use Rattle.col_token.specs.Tokens.{words_in}
 use Rattle.col_text.specs.Reading.{Reads, ReadsBy, Becomes}
@@ -236,13 +236,13 @@ most : (n low high : ℕ) → low ≤ high → nat_le n low ≡ true → nat_le 
 most n low high h e = let le : n ≤ low = leb-true n low e in le-leb n high (omega arith)
 
 -- the values that are told apart are words of 64 bits
-held-words : (held : Held) (x : ℤ) → is_within (held_values held) x ≡ true → is_within (word_values (Signed w64)) x ≡ true
-held-words Days (pos n) h = most n (2 ^ 31 - 1) (2 ^ 63 - 1) (omega arith) h
-held-words Days (negsuc n) h =
+range-words : (range : TickRange) (x : ℤ) → is_within (interval_of range) x ≡ true → is_within (word_values (Signed w64)) x ≡ true
+range-words Days (pos n) h = most n (2 ^ 31 - 1) (2 ^ 63 - 1) (omega arith) h
+range-words Days (negsuc n) h =
     and_true (nat_le n (2 ^ 63 - 1)) (most n (2 ^ 31 - 1) (2 ^ 63 - 1) (omega arith) (and_parts (nat_le n (2 ^ 31 - 1)) true h).0)
-held-words Times (pos n) h = most n 86_399_999_999_999 (2 ^ 63 - 1) (omega arith) (and_parts _ (nat_le n 86_399_999_999_999) h).1
-held-words Times (negsuc n) h = cc
-held-words Words x h = h
+range-words TimesOfDay (pos n) h = most n 86_399_999_999_999 (2 ^ 63 - 1) (omega arith) (and_parts _ (nat_le n 86_399_999_999_999) h).1
+range-words TimesOfDay (negsuc n) h = cc
+range-words Words x h = h
 
 within_tick : (range : Interval) (x y : ℤ) (fits : Bool) → is_within (word_values (Signed w64)) y ≡ fits
     → Some x ≡ tick_fit y → fitting_slot range (Some x) ≡ fitting_slot range (Some y)
@@ -276,22 +276,22 @@ pub slot_in-tick : (range : Interval) (text : List ℕ) (x : ℤ) → Some x ≡
     → fitting_slot range (Some x) ≡ slot_in range text
 slot_in-tick range text x h = token_tick range text x _ refl h
 
-not_within : (held : Held) (x : ℤ) (here words : Bool) → is_within (held_values held) x ≡ here
+not_within : (range : TickRange) (x : ℤ) (here words : Bool) → is_within (interval_of range) x ≡ here
     → is_within (word_values (Signed w64)) x ≡ words → None ≡ tick_fit x
-    → None ≡ fitting_slot (held_values held) (Some x)
-not_within held x false words e f h = rw e refl
-not_within held x true true e f h = let same : None ≡ Some x = rw f at h in cc
-not_within held x true false e f h = absurd (false≢true (sym f ∙ held-words held x e))
+    → None ≡ fitting_slot (interval_of range) (Some x)
+not_within range x false words e f h = rw e refl
+not_within range x true true e f h = let same : None ≡ Some x = rw f at h in cc
+not_within range x true false e f h = absurd (false≢true (sym f ∙ range-words range x e))
 
-no_integer : (held : Held) (integer : Option ℤ) → None ≡ option_and_then tick_fit integer
-    → None ≡ option_and_then (fitting_slot (held_values held)) (option_map Some integer)
-no_integer held None h = refl
-no_integer held (Some x) h = not_within held x _ _ refl refl h
+no_integer : (range : TickRange) (integer : Option ℤ) → None ≡ option_and_then tick_fit integer
+    → None ≡ option_and_then (fitting_slot (interval_of range)) (option_map Some integer)
+no_integer range None h = refl
+no_integer range (Some x) h = not_within range x _ _ refl refl h
 
 -- a token that is no integer of 64 bits and isn't null is no slot of the type
-pub slot_in-none : (held : Held) (text : List ℕ) → bytes_eq text (codes "null") ≡ false → None ≡ tick_of text
-    → None ≡ slot_in (held_values held) text
-slot_in-none held text e h = rw e (no_integer held (integer_of text) h)
+pub slot_in-none : (range : TickRange) (text : List ℕ) → bytes_eq text (codes "null") ≡ false → None ≡ tick_of text
+    → None ≡ slot_in (interval_of range) text
+slot_in-none range text e h = rw e (no_integer range (integer_of text) h)
 
 -- a part of a line that can't be read makes a column that can't
 pub reads_error : {X Y : Type 0} (view : X → Y) (error : LineError) (part : Option Y) (column : Option Column)

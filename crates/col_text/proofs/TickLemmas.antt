@@ -1,4 +1,4 @@
--- What the loop over digits reads is the integer of the grammar.
+-- A few digits behind a sign are the integer of the grammar.
 use Rattle.std.proofs.Common.{◌≡◌, pow-add, ◌⊎◌, inl, inr, ◌<◌, ◌≤◌, ◌-◌, ◌^◌, ◌+◌, ◌*◌, ◌∙◌, Option, ℕ, ℤ, pos, negsuc, neg_ℤ, Bool, true, false, List, [], ◌∷◌, length, take, get_or, Some, None, refl, sym, ap, arith, zero, suc}
 use Rattle.std.specs.Prelude.{option_map, option_and_then, nat_lt, nat_le}
 use Rattle.std.proofs.Math.Nat.{pow-le-pow_right}
@@ -15,26 +15,6 @@ use Rattle.col_text.specs.Numbers.{natural_of, integer_of, signed_of, tick_fit, 
 
 own : IsNumeralModel (λ ds. all_ascii_digits ds ≡ true) (digits_value 10)
 own = numerals_by_value _ tells_all_ascii_digits
-
-none_by : (ds : List ℕ) (a b : Bool) → nat_lt 0 (length ds) ≡ a → all_ascii_digits ds ≡ b → b ≡ false
-    → None ≡ natural_of ds
-none_by ds true b p q e = rw (p, q, e) refl
-none_by ds false b p q e = rw p refl
-
-no_digits_by : (ds : List ℕ) (i : ℕ) (b : Bool) → i < length ds → (IsInRange 48 57 (get_or ds i 0) → ⊥)
-    → all_ascii_digits ds ≡ b → b ≡ false
-no_digits_by ds i true h outside e = absurd (outside (digit_at ds i (own.to ds e) h))
-no_digits_by ds i false h outside e = refl
-
--- a text with a byte that is no digit is no number
-pub no_natural : (ds : List ℕ) (i : ℕ) → i < length ds → (IsInRange 48 57 (get_or ds i 0) → ⊥)
-    → None ≡ natural_of ds
-no_natural ds i h outside = none_by ds _ _ refl refl (no_digits_by ds i _ h outside refl)
-
--- a text without a byte is no number
-pub empty_natural : (ds : List ℕ) → length ds ≡ 0 → None ≡ natural_of ds
-empty_natural [] h = refl
-empty_natural (d ∷ ds) h = absurd (omega arith)
 
 some_by : (ds : List ℕ) (a b : Bool) → nat_lt 0 (length ds) ≡ a → all_ascii_digits ds ≡ b → a ≡ true → b ≡ true
     → Some (digits_value 10 ds) ≡ natural_of ds
@@ -109,9 +89,3 @@ pub tick_of-some : (text ds : List ℕ) (minus : Bool) (n : ℕ) → minus ≡ s
 tick_of-some text ds minus n e is h few =
     tick_by text minus (Some n) (sym e) (ap natural_of (sym is) ∙ sym h)
     (λ m same. natural-lt ds m few (sym same ∙ h))
-
--- a text with no number behind the sign is no integer
-pub tick_of-none : (text ds : List ℕ) (minus : Bool) → minus ≡ starts_with_minus text
-    → ds ≡ behind_sign text → None ≡ natural_of ds → None ≡ tick_of text
-tick_of-none text ds minus e is h =
-    tick_by text minus None (sym e) (ap natural_of (sym is) ∙ sym h) (λ m same. cc)

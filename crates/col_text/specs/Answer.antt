@@ -4,7 +4,6 @@ use Rattle.std.specs.List.{flat_map}
 use Rattle.std.specs.Fmt.{decimal, signed_decimal}
 use Rattle.col_model.specs.Value.{Value, Flat, Nested, Whole, Bytes}
 use Rattle.col_model.specs.Column.{Column}
-use Rattle.col_series.specs.Seen.{Seen, null, date, datetime, duration, time}
 use Rattle.col_expr.specs.declared.error.EvalError.{EvalError}
 use Rattle.col_expr.specs.declared.error.EvalError.TheVariants as refusals
 use Rattle.col_text.specs.Types.{dtype_text}
@@ -19,14 +18,6 @@ slot_text None = codes "null"
 slot_text (Some (Flat (Whole x))) = signed_decimal x
 slot_text (Some (Flat (Bytes bytes))) = []
 slot_text (Some (Nested leaves)) = []
-
--- the same of what a slot shows
-abbrev pub seen_text : Seen → List ℕ
-seen_text null = codes "null"
-seen_text (date day) = signed_decimal day
-seen_text (datetime tick unit _) = signed_decimal tick
-seen_text (duration tick unit) = signed_decimal tick
-seen_text (time tick) = signed_decimal tick
 
 -- the same of an integer or null
 abbrev pub tick_text : Option ℤ → List ℕ

@@ -1,17 +1,17 @@
 -- The line of a column.
 use Rattle.std.specs.Prelude.{◌≡◌, ◌<◌, ℕ, ◌^◌, Bool, ◌&&◌, List, [], ◌∷◌, ◌++◌, ℤ, true, Option, Some, None, option_and_then, option_map, nat_lt, nat_le, length, if◌then◌else◌, codes}
+use Rattle.std.specs.Int.{w32, w64}
 use Rattle.std.specs.List.{list_all}
 use Rattle.std.specs.Result.{result_ok}
 use Rattle.std.specs.Str.{bytes_eq}
 use Rattle.col_types.specs.declared.data_type.DataType.{DataType}
-use Rattle.std.specs.Int.{w32, w64}
 use Rattle.col_model.specs.Arithmetic.{Interval, is_within, Signed, word_values}
 use Rattle.col_model.specs.Column.{Column, values_of, day_values}
-use Rattle.col_series.specs.Slots.{ticks_column}
-use Rattle.col_text.specs.declared.column.Held.{Held}
-use Rattle.col_text.specs.declared.column.Held.TheVariants as helds
 use Rattle.col_model.specs.ColumnCalls.{column_from}
+use Rattle.col_series.specs.Slots.{ticks_column}
 use Rattle.col_token.specs.Tokens.{is_blank, words_in}
+use Rattle.col_text.specs.declared.column.TickRange.{TickRange}
+use Rattle.col_text.specs.declared.column.TickRange.TheVariants as ranges
 use Rattle.col_text.specs.Numbers.{integer_of, tick_of}
 use Rattle.col_text.specs.Parts.{is_graphic}
 use Rattle.col_text.specs.Types.{column_dtype}
@@ -44,22 +44,25 @@ slots_by read (token ∷ tokens) =
 abbrev pub slots_of : List (List ℕ) → Option (List (Option ℤ))
 slots_of tokens = slots_by slot_of tokens
 
--- these slots and one token more: a slot comes behind them, the end of a chunk adds none
-abbrev pub slots_after_by : (List ℕ → Option (Option ℤ)) → List (Option ℤ) → List ℕ → Option (List (Option ℤ))
-slots_after_by read slots token =
-    if ends_chunk token then Some slots
-    else option_map (λ slot. slots ++ slot ∷ []) (read token)
+-- a column, where each slot is a value of the type
+abbrev pub column_with : List ℕ → List (List ℕ) → DataType → Option Column
+column_with name slots dtype =
+    option_and_then (λ values. result_ok (column_from name dtype values)) (slots_of slots)
 
--- these slots, and then those that are read
-abbrev pub with_front : List (Option ℤ) → Option (List (Option ℤ)) → Option (List (Option ℤ))
-with_front front (Some slots) = Some (front ++ slots)
-with_front front None = None
+-- the column that stands behind `col`, with the zones handed in before: a name, a type, and slots
+abbrev pub column_line : List (List ℕ) → List (List ℕ) → Option Column
+column_line zones (name ∷ (dtype ∷ slots)) =
+    if is_name name then option_and_then (column_with name slots) (column_dtype zones dtype)
+    else None
+column_line zones _ = None
+
+-- ---- the same, where slots are read straight into the values of a type
 
 -- the values that the code tells apart
-abbrev pub held_values : Held → Interval
-held_values helds.Days = word_values (Signed w32)
-held_values helds.Times = day_values
-held_values helds.Words = word_values (Signed w64)
+abbrev pub interval_of : TickRange → Interval
+interval_of ranges.Days = word_values (Signed w32)
+interval_of ranges.TimesOfDay = day_values
+interval_of ranges.Words = word_values (Signed w64)
 
 -- whether a slot is null or lies in the interval
 abbrev pub is_slot_within : Interval → Option ℤ → Bool
@@ -74,14 +77,31 @@ fitting_slot range slot = if is_slot_within range slot then Some slot else None
 abbrev pub slot_in : Interval → List ℕ → Option (Option ℤ)
 slot_in range text = option_and_then (fitting_slot range) (slot_of text)
 
+-- the slots of a line, none where a token is none or lies outside the range
+abbrev pub slots_of_line : TickRange → List ℕ → Option (List (Option ℤ))
+slots_of_line range line = slots_by (slot_in (interval_of range)) (words_in line)
+
 -- the slots of all chunks, none where a token is none or no value of the type
 abbrev pub slots_in_type : DataType → List (List ℕ) → Option (List (Option ℤ))
-slots_in_type dtype tokens = option_and_then (λ range. slots_by (slot_in range) tokens) (values_of dtype)
+slots_in_type dtype tokens =
+    option_and_then (λ range. slots_by (slot_in range) tokens) (values_of dtype)
 
 -- the column of slots, none where they are too many
 abbrev pub short_column : List ℕ → DataType → List (Option ℤ) → Option Column
 short_column name dtype slots =
     if nat_lt (length slots) (2 ^ 32) then Some (ticks_column name dtype slots) else None
+
+-- these slots and one token more: a slot comes behind them, the end of a chunk adds none
+abbrev pub slots_after_by : (List ℕ → Option (Option ℤ)) → List (Option ℤ) → List ℕ
+    → Option (List (Option ℤ))
+slots_after_by read slots token =
+    if ends_chunk token then Some slots
+    else option_map (λ slot. slots ++ slot ∷ []) (read token)
+
+-- these slots, and then those that are read
+abbrev pub with_front : List (Option ℤ) → Option (List (Option ℤ)) → Option (List (Option ℤ))
+with_front front (Some slots) = Some (front ++ slots)
+with_front front None = None
 
 -- whether a token ends before this text: nothing or a blank comes
 abbrev pub ends_token : List ℕ → Bool
@@ -94,15 +114,3 @@ pub record IsFrontTick (line : List ℕ) (x : ℤ) (rest : List ℕ) : Type 0 wh
   pub words : words_in line ≡ token ∷ words_in rest
   pub value : Some x ≡ tick_of token
   pub shorter : length rest < length line
-
--- a column, where each slot is a value of the type
-abbrev pub column_with : List ℕ → List (List ℕ) → DataType → Option Column
-column_with name slots dtype =
-    option_and_then (λ values. result_ok (column_from name dtype values)) (slots_of slots)
-
--- the column that stands behind `col`, with the zones handed in before: a name, a type, and slots
-abbrev pub column_line : List (List ℕ) → List (List ℕ) → Option Column
-column_line zones (name ∷ (dtype ∷ slots)) =
-    if is_name name then option_and_then (column_with name slots) (column_dtype zones dtype)
-    else None
-column_line zones _ = None

@@ -48,19 +48,19 @@ fn header(alloc: Global, column: &Series) -> Result<Vec<u8>, AllocError>
     Ok(text.into_bytes())
 }
 
-/// The places of a line's buffer: an integer of 64 bits and the line feed have room.
-const LINE: usize = 24;
+/// A sign, 19 digits and a line feed.
+const LONGEST_LINE: usize = 21;
 
-/// Writes the line of an integer at the end of the buffer, which has its line feed, and tells where
-/// it begins.
+/// Writes the line of a tick at the end of the buffer, where its line feed stands already, and tells
+/// where it begins.
 fn write_tick(line: &mut [u8], tick: i64) -> usize
-    requires size { length line.old ≡ LINE }
-    requires end { drop (LINE - 1) line.old ≡ 10 ∷ [] }
-    ensures start { result ≤ LINE }
+    requires size { length line.old ≡ LONGEST_LINE }
+    requires end { drop (LONGEST_LINE - 1) line.old ≡ 10 ∷ [] }
+    ensures start { result ≤ LONGEST_LINE }
     ensures written { drop result line.new ≡ line_of (signed_decimal tick) }
-    ensures end { drop (LINE - 1) line.new ≡ 10 ∷ [] }
+    ensures end { drop (LONGEST_LINE - 1) line.new ≡ 10 ∷ [] }
 {
-    let start = write_digits(tick.unsigned_abs(), line, LINE - 1);
+    let start = write_digits(tick.unsigned_abs(), line, LONGEST_LINE - 1);
     if tick >= 0 {
         return start;
     }
@@ -68,11 +68,12 @@ fn write_tick(line: &mut [u8], tick: i64) -> usize
     start - 1
 }
 
-fn push_slot(text: &mut Vec<u8>, line: &mut [u8], slot: Option<i64>) -> Result<(), AllocError>
-    requires size { length line.old ≡ LINE }
-    requires end { drop (LINE - 1) line.old ≡ 10 ∷ [] }
+/// Adds the line of a slot, in one piece.
+fn push_row(text: &mut Vec<u8>, line: &mut [u8], slot: Option<i64>) -> Result<(), AllocError>
+    requires size { length line.old ≡ LONGEST_LINE }
+    requires end { drop (LONGEST_LINE - 1) line.old ≡ 10 ∷ [] }
     ensures text { OnOk result (text.new.items ≡ text.old.items ++ line_of (tick_text slot)) }
-    ensures end { drop (LINE - 1) line.new ≡ 10 ∷ [] }
+    ensures end { drop (LONGEST_LINE - 1) line.new ≡ 10 ∷ [] }
 {
     match slot {
         Some(tick) => {
@@ -83,14 +84,15 @@ fn push_slot(text: &mut Vec<u8>, line: &mut [u8], slot: Option<i64>) -> Result<(
     }
 }
 
+// A function of its own, so that its loop has the registers to itself.
 #[inline(never)]
 fn push_rows(text: &mut Vec<u8>, ticks: &[Option<i64>]) -> Result<(), AllocError>
     ensures text { OnOk result (text.new.items ≡ text.old.items
         ++ flat_map (λ slot. line_of (tick_text slot)) ticks.now) }
 {
-    let mut line = [b'\n'; LINE];
+    let mut line = [b'\n'; LONGEST_LINE];
     for slot in ticks {
-        push_slot(text, &mut line, *slot)?;
+        push_row(text, &mut line, *slot)?;
     }
     Ok(())
 }

@@ -12,12 +12,12 @@ ghost use Rattle.col_text.specs.Slots.{
   ends_chunk,
   is_name,
   fitting_slot,
-  held_values,
+  interval_of,
   short_column,
   slot_in,
   slots_after_by,
-  slots_by,
   slots_in_type,
+  slots_of_line,
   with_front,
 };
 ghost use Rattle.col_text.specs.Reading.{Reads, ReadsBy, Becomes};
@@ -49,114 +49,110 @@ fn ends_chunk(token: &[u8]) -> bool
     is_word(token, "|")
 }
 
-/// The values that a column of a type has: days, the times of a day, or all words of 64 bits.
+/// The values that a column's type has: days, the times of a day, or all words of 64 bits.
 #[derive(Clone, Copy)]
-pub(crate) enum Held {
+pub(crate) enum TickRange {
     Days,
-    Times,
+    TimesOfDay,
     Words,
 }
 
-fn held_by(dtype: &DataType) -> Held
+fn tick_range(dtype: &DataType) -> TickRange
     requires built { is_built_type dtype.now ≡ true }
-    ensures values { values_of dtype.now ≡ Some (held_values result) }
+    ensures values { values_of dtype.now ≡ Some (interval_of result) }
 {
     match dtype {
-        DataType::Date => Held::Days,
-        DataType::Time => Held::Times,
-        DataType::Datetime(_, _) | DataType::Duration(_) => Held::Words,
+        DataType::Date => TickRange::Days,
+        DataType::Time => TickRange::TimesOfDay,
+        DataType::Datetime(_, _) | DataType::Duration(_) => TickRange::Words,
         _ => unreachable!(),
     }
 }
 
 #[inline(always)]
-fn is_held(held: Held, value: i64) -> bool
-    ensures within { result ≡ is_within (held_values held) value }
+fn is_in_range(range: TickRange, tick: i64) -> bool
+    ensures within { result ≡ is_within (interval_of range) tick }
 {
-    match held {
-        Held::Days => i64::from(i32::MIN) <= value && value <= i64::from(i32::MAX),
-        Held::Times => 0 <= value && value < ticks_per_day(TimeUnit::Nanoseconds),
-        Held::Words => true,
+    match range {
+        TickRange::Days => i64::from(i32::MIN) <= tick && tick <= i64::from(i32::MAX),
+        TickRange::TimesOfDay => 0 <= tick && tick < ticks_per_day(TimeUnit::Nanoseconds),
+        TickRange::Words => true,
     }
 }
 
+/// The slot of a tick, if it is a value of the type.
 #[inline(always)]
-fn held_slot(held: Held, value: i64) -> Option<Option<i64>>
-    ensures slot { result ≡ fitting_slot (held_values held) (Some value) }
+fn fitting_slot(range: TickRange, tick: i64) -> Option<Option<i64>>
+    ensures slot { result ≡ fitting_slot (interval_of range) (Some tick) }
 {
-    if is_held(held, value) {
-        Some(Some(value))
+    if is_in_range(range, tick) {
+        Some(Some(tick))
     } else {
         None
     }
 }
 
-fn slot(token: &[u8], held: Held) -> Option<Option<i64>>
-    ensures slot { result ≡ slot_in (held_values held) token.now }
+/// The slot that a token spells.
+fn slot(token: &[u8], range: TickRange) -> Option<Option<i64>>
+    ensures slot { result ≡ slot_in (interval_of range) token.now }
 {
+    if is_word(token, "null") {
+        return Some(None);
+    }
     match tick(token) {
-        Some(value) => held_slot(held, value),
-        None => {
-            if is_word(token, "null") {
-                Some(None)
-            } else {
-                None
-            }
-        }
+        Some(tick) => fitting_slot(range, tick),
+        None => None,
     }
 }
 
-/// Reads one more token of slots.
-fn push_slot(slots: &mut Vec<Option<i64>>, token: &[u8], held: Held) -> Result<(), LineError>
+/// Adds the slot that a token spells. The end of a chunk adds none.
+fn push_token(slots: &mut Vec<Option<i64>>, token: &[u8], range: TickRange) -> Result<(), LineError>
     ensures slots { Becomes result slots.new.items
-        (slots_after_by (slot_in (held_values held)) slots.old.items token.now) }
+        (slots_after_by (slot_in (interval_of range)) slots.old.items token.now) }
 {
-    match slot(token, held) {
-        Some(slot) => Ok(slots.push(slot)?),
-        None => {
-            if ends_chunk(token) {
-                Ok(())
-            } else {
-                Err(LineError::Bad)
-            }
-        }
+    if ends_chunk(token) {
+        return Ok(());
     }
-}
-
-/// Reads an integer that is read already.
-#[inline(always)]
-fn push_tick(slots: &mut Vec<Option<i64>>, value: i64, held: Held) -> Result<(), LineError>
-    ensures slots { Becomes result slots.new.items
-        (option_map (λ slot. slots.old.items ++ slot ∷ []) (fitting_slot (held_values held) (Some value))) }
-{
-    match held_slot(held, value) {
+    match slot(token, range) {
         Some(slot) => Ok(slots.push(slot)?),
         None => Err(LineError::Bad),
     }
 }
 
-/// Reads the first token of a line that isn't empty, and gives what follows it.
+/// Adds the slot of a tick.
 #[inline(always)]
-fn push_first<'a>(
+fn push_tick(slots: &mut Vec<Option<i64>>, tick: i64, range: TickRange) -> Result<(), LineError>
+    ensures slots { Becomes result slots.new.items
+        (option_map (λ slot. slots.old.items ++ slot ∷ [])
+        (fitting_slot (interval_of range) (Some tick))) }
+{
+    match fitting_slot(range, tick) {
+        Some(slot) => Ok(slots.push(slot)?),
+        None => Err(LineError::Bad),
+    }
+}
+
+/// Adds the slot of a line's first token, and gives what follows it.
+#[inline(always)]
+fn push_front<'a>(
     slots: &mut Vec<Option<i64>>,
     line: &'a [u8],
-    held: Held,
+    range: TickRange,
 ) -> Result<&'a [u8], LineError>
     requires some { 0 < length line.now }
-    ensures step { IfOk result (λ rest.
-        with_front slots.new.items (slots_by (slot_in (held_values held)) (words_in rest.now))
-        ≡ with_front slots.old.items (slots_by (slot_in (held_values held)) (words_in line.now))) }
+    ensures step { IfOk result (λ rest. with_front slots.new.items (slots_of_line range rest.now)
+        ≡ with_front slots.old.items (slots_of_line range line.now)) }
     ensures shorter { IfOk result (λ rest. length rest.now < length line.now) }
     ensures bad { result ≡ Err LineError.Bad →
-        with_front slots.old.items (slots_by (slot_in (held_values held)) (words_in line.now)) ≡ None }
+        with_front slots.old.items (slots_of_line range line.now) ≡ None }
 {
     match front_tick(line) {
-        Some((value, rest)) => match push_tick(slots, value, held) {
+        Some((tick, rest)) => match push_tick(slots, tick, range) {
             Ok(()) => Ok(rest),
             Err(error) => Err(error),
         },
         None => match first_token(line) {
-            Some((token, rest)) => match push_slot(slots, token, held) {
+            Some((token, rest)) => match push_token(slots, token, range) {
                 Ok(()) => Ok(rest),
                 Err(error) => Err(error),
             },
@@ -167,14 +163,13 @@ fn push_first<'a>(
 
 // A function of its own, so that its loop has the registers to itself.
 #[inline(never)]
-fn slots(alloc: Global, line: &[u8], held: Held) -> Result<Vec<Option<i64>>, LineError>
-    ensures slots { ReadsBy (λ v. v.items) result
-        (slots_by (slot_in (held_values held)) (words_in line.now)) }
+fn slots(alloc: Global, line: &[u8], range: TickRange) -> Result<Vec<Option<i64>>, LineError>
+    ensures slots { ReadsBy (λ v. v.items) result (slots_of_line range line.now) }
 {
     let mut slots = Vec::new(alloc);
     let mut rest = line;
     'slots: while !rest.is_empty() {
-        match push_first(&mut slots, rest, held) {
+        match push_front(&mut slots, rest, range) {
             Ok(more) => rest = more,
             Err(error) => return Err(error),
         }
@@ -187,11 +182,11 @@ fn typed_slots(alloc: Global, line: &[u8], dtype: &DataType) -> Result<Vec<Optio
     requires built { is_built_type dtype.now ≡ true }
     ensures slots { ReadsBy (λ v. v.items) result (slots_in_type dtype.now (words_in line.now)) }
 {
-    slots(alloc, line, held_by(dtype))
+    slots(alloc, line, tick_range(dtype))
 }
 
-/// The column of these slots.
-fn column_of(
+/// The column of these slots, unless they are too many.
+fn column_of_slots(
     alloc: Global,
     name: &[u8],
     dtype: DataType,
@@ -224,7 +219,7 @@ fn column_with(
     ensures column { Reads result (column_with name.now (words_in line.now) dtype) }
 {
     match typed_slots(alloc, line, &dtype) {
-        Ok(slots) => column_of(alloc, name, dtype, slots),
+        Ok(slots) => column_of_slots(alloc, name, dtype, slots),
         Err(error) => Err(error),
     }
 }

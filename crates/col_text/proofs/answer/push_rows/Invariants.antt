@@ -7,5 +7,5 @@ abbrev pub invariant-loop-slot : goal.invariant-loop-slot
 invariant-loop-slot l = record {
   text : l.text.items ≡ l.initial.text.items
       ++ flat_map (λ slot. line_of (tick_text slot)) (take l.slot-index l.ticks);
-  end : drop 23 l.line ≡ 10 ∷ [];
+  end : drop 20 l.line ≡ 10 ∷ [];
 }

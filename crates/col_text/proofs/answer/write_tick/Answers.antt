@@ -26,7 +26,7 @@ returns-then-tick-ge0-clause-written c =
 pub returns-then-tick-ge0-clause-end : goal.returns-then-tick-ge0-clause-end
 returns-then-tick-ge0-clause-end c =
     let w = c.write_digits-start in
-    behind_digits w.new.buf _ _ w.result 23 w.ensures.start w.ensures.written ∙ c.requires.end
+    behind_digits w.new.buf _ _ w.result 20 w.ensures.start w.ensures.written ∙ c.requires.end
 
 pub returns-clause-written : goal.returns-clause-written
 returns-clause-written c =
@@ -40,5 +40,5 @@ returns-clause-written c =
 pub returns-clause-end : goal.returns-clause-end
 returns-clause-end c =
     let w = c.write_digits-start in
-    drop-set-lt 23 w.new.buf (w.result - 1) 45 (omega arith)
-    ∙ behind_digits w.new.buf _ _ w.result 23 w.ensures.start w.ensures.written ∙ c.requires.end
+    drop-set-lt 20 w.new.buf (w.result - 1) 45 (omega arith)
+    ∙ behind_digits w.new.buf _ _ w.result 20 w.ensures.start w.ensures.written ∙ c.requires.end

@@ -5,14 +5,14 @@ use Rattle.col_model.specs.Column.{values_of}
 use Rattle.col_text.proofs.SlotLemmas.{built_values, column_with-typed_none, column_with-typed_some, reads_error}
 use Rattle.col_text.proofs.column.column_with.Goals as goal
 
-pub column_of-requires-clause-fit : goal.column_of-requires-clause-fit
-column_of-requires-clause-fit c =
+pub column_of_slots-requires-clause-fit : goal.column_of_slots-requires-clause-fit
+column_of_slots-requires-clause-fit c =
     (column_with-typed_some c.args.name.now c.args.dtype (words_in c.args.line.now) c.in-Ok.slots.items c.in-Ok.ensures.slots).fit
 
 pub returns-in-Ok : goal.returns-in-Ok
 returns-in-Ok c = record {
   column = let read = column_with-typed_some c.args.name.now c.args.dtype (words_in c.args.line.now) c.in-Ok.slots.items c.in-Ok.ensures.slots in
-      rw read.column c.column_of.ensures.column;
+      rw read.column c.column_of_slots.ensures.column;
 }
 
 pub returns-in-Err : goal.returns-in-Err

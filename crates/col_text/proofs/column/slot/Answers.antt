@@ -4,9 +4,9 @@ use Rattle.col_text.proofs.column.slot.Goals as goal
 
 pub returns-in-Some : goal.returns-in-Some
 returns-in-Some c =
-    let fits : FitsSigned w64 c.in-Some.value = search (rules, c.tick.type_inv) in
+    let fits : FitsSigned w64 c.in-Some.tick = search (rules, c.tick.type_inv) in
     let back = to_z-of_z fits in
     record {
-      slot = (rw back at c.held_slot.ensures.slot)
-          ∙ slot_in-tick _ c.args.token.now c.in-Some.value (sym c.in-Some.is ∙ c.tick.ensures.value);
+      slot = (rw back at c.fitting_slot.ensures.slot)
+          ∙ slot_in-tick _ c.args.token.now c.in-Some.tick (sym c.in-Some.is ∙ c.tick.ensures.value);
     }

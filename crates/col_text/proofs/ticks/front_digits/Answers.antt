@@ -7,21 +7,21 @@ use Rattle.col_text.proofs.ticks.front_digits.Goals as goal
 
 pub overflow_mul-value : goal.overflow_mul-value
 overflow_mul-value c =
-    omega (arith, digit_below _ 0 _ c.loop-at.invariant.small (omega arith), below_top (c.loop-at.at + 1) (omega arith))
+    omega (arith, digit_below _ 0 _ c.loop-count.invariant.small (omega arith), below_top (c.loop-count.count + 1) (omega arith))
 
 pub overflow_add-value : goal.overflow_add-value
 overflow_add-value c =
     let digit : c.from.result < 10 = grind (arith, nat_tests) in
-    omega (arith, digit_below _ _ _ c.loop-at.invariant.small digit, below_top (c.loop-at.at + 1) (omega arith))
+    omega (arith, digit_below _ _ _ c.loop-count.invariant.small digit, below_top (c.loop-count.count + 1) (omega arith))
 
-pub loop-at-preserved : goal.loop-at-preserved
-loop-at-preserved c =
-    let digit : digit_value (get_or c.args.text.now c.loop-at.at 0) ≡ c.from.result = grind (arith, nat_tests) in
-    let small : digit_value (get_or c.args.text.now c.loop-at.at 0) < 10 = c.if-is_ascii_digit.ensures.bound in
+pub loop-count-preserved : goal.loop-count-preserved
+loop-count-preserved c =
+    let digit : digit_value (get_or c.args.text.now c.loop-count.count 0) ≡ c.from.result = grind (arith, nat_tests) in
+    let small : digit_value (get_or c.args.text.now c.loop-count.count 0) < 10 = c.if-is_ascii_digit.ensures.bound in
     record {
       few = omega arith;
       within = omega arith;
-      digits = digits_more 10 c.args.text.now _ c.loop-at-test.true c.loop-at.invariant.digits small;
-      value = omega (arith, digits_value_more 10 c.args.text.now _ c.loop-at-test.true, digit, c.loop-at.invariant.value);
-      small = digit_below _ _ _ c.loop-at.invariant.small (omega (arith, digit, small));
+      digits = digits_more 10 c.args.text.now _ c.loop-count-test.true c.loop-count.invariant.digits small;
+      value = omega (arith, digits_value_more 10 c.args.text.now _ c.loop-count-test.true, digit, c.loop-count.invariant.value);
+      small = digit_below _ _ _ c.loop-count.invariant.small (omega (arith, digit, small));
     }
