@@ -2,6 +2,7 @@
 use Rattle.std.specs.Prelude.{zero, suc, ◌^◌, ◌-◌, ◌/◌, ◌-ℤ◌, ◌*ℤ◌, ℕ, ℤ, pos, negsuc, neg_ℤ, Bool, ◌&&◌, Option, Some, None, int_div, int_le, nat_lt, unwrap_or, if◌then◌else◌}
 use Rattle.std.specs.Int.{Width}
 use Rattle.num_traits.specs.Laws.{bit_len, wrap_signed, wrap_unsigned}
+use Rattle.col_types.specs.DataType.{max_digits}
 
 -- ---- intervals and words
 
@@ -71,11 +72,7 @@ unless_zero (negsuc n) x = Some x
 
 -- ---- decimals
 
--- the greatest number of digits, which a missing precision stands for
-abbrev pub max_digits : ℕ
-max_digits = 38
-
--- the integers of at most so many digits
+-- the integers of at most so many digits; a missing precision stands for the greatest
 abbrev pub decimal_values : Option ℕ → Interval
 decimal_values precision =
     let most = 10 ^ unwrap_or precision max_digits - 1 in

@@ -2,13 +2,12 @@
 use Rattle.std.specs.Prelude.{◌≡◌, ◌<◌, ◌^◌, ◌-◌, ◌&&◌, ℕ, pos, Bool, true, false, List, length, Option, Some, None}
 use Rattle.std.specs.List.{list_all}
 use Rattle.std.specs.Option.{option_map}
-use Rattle.std.specs.Int.{w32, w64}
-use Rattle.col_types.specs.TimeUnit.{ticks_per_day}
-use Rattle.col_types.specs.DataType.{is_temporal, is_column_type}
-use Rattle.col_types.specs.declared.time_unit.TimeUnit.TheVariants.{Nanoseconds}
-use Rattle.col_types.specs.declared.data_type.DataType.{DataType, Date, Datetime, Duration, Time}
+use Rattle.std.specs.Int.{w8, w16, w32, w64, w128}
+use Rattle.col_types.specs.TimeUnit.{nanos_per_day}
+use Rattle.col_types.specs.DataType.{is_built, is_column_type, physical_leaf}
+use Rattle.col_types.specs.declared.data_type.DataType.{DataType, Int8, Int16, Int32, Int64, Int128, UInt8, UInt16, UInt32, UInt64, Boolean, Time}
 use Rattle.col_types.specs.declared.is_sorted.IsSorted.{IsSorted}
-use Rattle.col_model.specs.Arithmetic.{Interval, is_within, WordType, Signed, word_values}
+use Rattle.col_model.specs.Arithmetic.{Interval, is_within, WordType, Signed, Unsigned, word_values}
 use Rattle.col_model.specs.Value.{Value, Flat, Whole}
 use Rattle.col_model.specs.Sortedness.{is_flag_true}
 
@@ -19,25 +18,39 @@ pub record Column : Type 0 where
   pub slots : List (Option Value)
   pub flag : IsSorted
 
--- the word in which a column of the type keeps its integers, none for a type whose columns don't exist yet
-abbrev pub physical_word : DataType → Option WordType
-physical_word Date = Some (Signed w32)
-physical_word (Datetime unit _) = Some (Signed w64)
-physical_word (Duration unit) = Some (Signed w64)
-physical_word Time = Some (Signed w64)
-physical_word _ = None
+-- the word of an integer type
+abbrev pub integer_word : DataType → Option WordType
+integer_word Int8 = Some (Signed w8)
+integer_word Int16 = Some (Signed w16)
+integer_word Int32 = Some (Signed w32)
+integer_word Int64 = Some (Signed w64)
+integer_word Int128 = Some (Signed w128)
+integer_word UInt8 = Some (Unsigned w8)
+integer_word UInt16 = Some (Unsigned w16)
+integer_word UInt32 = Some (Unsigned w32)
+integer_word UInt64 = Some (Unsigned w64)
+integer_word _ = None
 
--- whether columns of the type exist: so far the temporal ones
+-- the word in which a column of the type keeps its integers: that of the integer type that stores it
+abbrev pub physical_word : DataType → Option WordType
+physical_word dtype = integer_word (physical_leaf dtype)
+
+-- whether a column can have the type, and columns of it exist
 abbrev pub is_built_type : DataType → Bool
-is_built_type dtype = is_temporal dtype && is_column_type dtype
+is_built_type dtype = is_built dtype && is_column_type dtype
+
+-- 0 for false and 1 for true
+abbrev pub truth_values : Interval
+truth_values = record { low = pos 0; high = pos 1 }
 
 -- the nanoseconds of a day, from its beginning on
 abbrev pub day_values : Interval
-day_values = record { low = pos 0; high = pos (ticks_per_day Nanoseconds - 1) }
+day_values = record { low = pos 0; high = pos (nanos_per_day - 1) }
 
--- the integers that are values of the type: those of its word, and for a time those of a day
+-- the integers that are values of the type: those of its word, for a time those of a day
 abbrev pub values_of : DataType → Option Interval
 values_of Time = Some day_values
+values_of Boolean = Some truth_values
 values_of dtype = option_map word_values (physical_word dtype)
 
 -- whether the interval is there and has the value

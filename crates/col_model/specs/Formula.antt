@@ -2,6 +2,7 @@
 use Rattle.std.specs.Prelude.{ℕ, zero, suc, ℤ, pos, negsuc, ◌+ℤ◌, ◌-ℤ◌, ◌*ℤ◌, ◌&&◌, Option, Some, None, if◌then◌else◌, int_lt}
 use Rattle.std.specs.Option.{option_and_then, option_map}
 use Rattle.std.specs.Int.{int_min, int_max}
+use Rattle.col_model.specs.Value.{Value, on_slot, on_slots}
 use Rattle.col_model.specs.Arithmetic.{Interval, is_within, WordType, word_values, fitting_value, wrapped_value, floor_by, trunc_by, floor_div, trunc_div, floor_mod, unless_zero}
 
 -- a formula in the integers x and y of one or two slots
@@ -53,6 +54,14 @@ value_of (FloorMod f g) x y = on_both (divided floor_mod) (value_of f x y) (valu
 value_of (Fit range f) x y = option_and_then (fitting_value range) (value_of f x y)
 value_of (Wrap word f) x y = option_map (wrapped_value word) (value_of f x y)
 value_of (NonZero f) x y = option_map truth_of (value_of f x y)
+
+-- a slot under a formula in its integer, null where it is null
+abbrev pub slot_by : Formula → Option Value → Option Value
+slot_by formula slot = on_slot (λ x. value_of formula x x) slot
+
+-- two slots under a formula in their integers, null where one of them is null
+abbrev pub slots_by : Formula → Option Value → Option Value → Option Value
+slots_by formula left right = on_slots (value_of formula) left right
 
 -- the value with every fit and every wrap left out; null for a divisor 0 alone
 abbrev pub exact_value_of : Formula → ℤ → ℤ → Option ℤ

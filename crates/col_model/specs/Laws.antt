@@ -8,7 +8,7 @@ use Rattle.col_types.specs.declared.cast_options.CastOptions.TheVariants.{NonStr
 use Rattle.col_types.specs.declared.operator.BinOp.{BinOp}
 use Rattle.col_types.specs.declared.operator.BinOp.TheVariants.{Add, Sub, Rem}
 use Rattle.col_model.specs.CastTable.{CastRule, cast_rule}
-use Rattle.col_model.specs.OperatorTable.{OperatorRule, operator_rule}
+use Rattle.col_model.specs.OperatorTable.{OperatorRule, listed_rule}
 use Rattle.col_model.specs.Arithmetic.{floor_by, trunc_by}
 use Rattle.col_model.specs.Formula.{Formula, X, value_of}
 use Rattle.col_model.specs.UnitChange.{datetime_in_unit, duration_in_unit}
@@ -62,7 +62,7 @@ pub record KnownCasts : Type 0 where
 -- what an operator makes of two integers: none where there is no row, else its value or null
 abbrev pub joined_at : BinOp → DataType → DataType → ℤ → ℤ → Option (Option ℤ)
 joined_at op left right x y =
-    option_map (λ (rule : OperatorRule). value_of rule.formula x y) (operator_rule op left right)
+    option_map (λ (rule : OperatorRule). value_of rule.formula x y) (listed_rule op left right)
 
 -- a date with a length cuts it to milliseconds and rounds the sum down; the other order rounds the length down
 pub record KnownJoins : Type 0 where

@@ -7,6 +7,7 @@ pub mod Chunked
 pub mod Broadcast
 pub mod UnitChange
 pub mod CastTable
+pub mod OperationNames
 pub mod OperatorTable
 pub mod ScalarTable
 pub mod ColumnCalls

@@ -1,5 +1,6 @@
 -- The operator table: for each operator and ordered pair of types the answer's type and the formula of a slot.
-use Rattle.std.specs.Prelude.{Option, Some, None, if◌then◌else◌}
+use Rattle.std.specs.Prelude.{Option, Some, None, Result, if◌then◌else◌}
+use Rattle.std.specs.Option.{ok_or}
 use Rattle.std.specs.Int.{w32, w64}
 use Rattle.col_types.specs.TimeUnit.{coarser_unit, ticks_per_day}
 use Rattle.col_types.specs.DataType.{same_zone}
@@ -8,16 +9,18 @@ use Rattle.col_types.specs.declared.time_unit.TimeUnit.TheVariants.{Nanoseconds,
 use Rattle.col_types.specs.declared.data_type.DataType.{DataType, Date, Datetime, Duration, Time}
 use Rattle.col_types.specs.declared.operator.BinOp.{BinOp}
 use Rattle.col_types.specs.declared.operator.BinOp.TheVariants.{Add, Sub, Mul, Div, Rem}
+use Rattle.col_types.specs.declared.error.PolarsError.{PolarsError}
+use Rattle.col_model.specs.OperationNames.{name_of_op, unsupported}
 use Rattle.col_model.specs.Arithmetic.{Signed, word_values}
 use Rattle.col_model.specs.Formula.{Formula, X, Y, Sum, Difference, FloorBy, FloorMod, Fit, Wrap}
 use Rattle.col_model.specs.UnitChange.{times, datetime_in_unit, duration_in_unit, day_in_unit}
 
--- a row of the table
+-- a rule of the table: the answer's type, and the formula of a slot
 pub record OperatorRule : Type 0 where
   pub dtype : DataType
   pub formula : Formula
 
--- a row, as a table has it
+-- a rule, as a table has it
 abbrev pub giving : DataType → Formula → Option OperatorRule
 giving dtype formula = Some (record { dtype = dtype; formula = formula })
 
@@ -29,11 +32,13 @@ wrapping join left right = Wrap (Signed w64) (join left right)
 abbrev pub as_date : Formula → Formula
 as_date days = Fit (word_values (Signed w32)) days
 
--- a date joined with a length of time, which is first cut to milliseconds: the day in which the moment lies
+-- a date joined with a length of time: the day in which the moment lies. Both are first told in the
+-- coarser of milliseconds and the length's unit
 abbrev pub date_joined : (Formula → Formula → Formula) → TimeUnit → Formula
 date_joined join unit =
-    let day = ticks_per_day Milliseconds in
-    as_date (FloorBy (wrapping join (times day X) (duration_in_unit unit Milliseconds Y)) day)
+    let w = coarser_unit Milliseconds unit in
+    let day = ticks_per_day w in
+    as_date (FloorBy (wrapping join (times day X) (duration_in_unit unit w Y)) day)
 
 -- sums; where units differ, both operands go to the coarser one
 abbrev pub sum_rule : DataType → DataType → Option OperatorRule
@@ -75,10 +80,15 @@ rest_rule (Duration u) (Duration v) =
     giving (Duration w) (FloorMod (duration_in_unit u w X) (duration_in_unit v w Y))
 rest_rule _ _ = None
 
--- the row for an operator and two types, or none; products and quotients have none between temporal types
-abbrev pub operator_rule : BinOp → DataType → DataType → Option OperatorRule
-operator_rule Add left right = sum_rule left right
-operator_rule Sub left right = difference_rule left right
-operator_rule Mul left right = None
-operator_rule Div left right = None
-operator_rule Rem left right = rest_rule left right
+-- the rule that the table lists for an operator and two types, or none; products and quotients have
+-- none between temporal types
+abbrev pub listed_rule : BinOp → DataType → DataType → Option OperatorRule
+listed_rule Add left right = sum_rule left right
+listed_rule Sub left right = difference_rule left right
+listed_rule Mul left right = None
+listed_rule Div left right = None
+listed_rule Rem left right = rest_rule left right
+
+-- the rule for an operator and two types, or the refusal
+abbrev pub operator_rule : BinOp → DataType → DataType → Result OperatorRule PolarsError
+operator_rule op left right = ok_or (listed_rule op left right) (unsupported (name_of_op op) left right)

@@ -1,7 +1,8 @@
 -- The scalar forms, which meet a column with one integer, and the changes of a column's unit.
-use Rattle.std.specs.Prelude.{ℤ, Bool, false, Option, Some, None}
-use Rattle.std.specs.Option.{option_map}
-use Rattle.col_types.specs.declared.data_type.DataType.{DataType, Datetime, Duration, Time}
+use Rattle.std.specs.Prelude.{ℤ, Bool, false, ◌||◌, Option, Some, None, if◌then◌else◌}
+use Rattle.std.specs.Option.{option_map, option_and_then}
+use Rattle.col_types.specs.DataType.{is_integer, is_temporal}
+use Rattle.col_types.specs.declared.data_type.DataType.{DataType, Int128, Datetime, Duration, Time, Decimal}
 use Rattle.col_types.specs.declared.time_unit.TimeUnit.{TimeUnit}
 use Rattle.col_types.specs.declared.operator.BinOp.{BinOp}
 use Rattle.col_types.specs.declared.operator.BinOp.TheVariants as ops
@@ -35,16 +36,24 @@ abbrev pub bounded : DataType → Formula → Formula
 bounded Time value = Fit day_values value
 bounded _ value = value
 
--- the row that keeps the type, where the type has a word
+-- the type of the answer, none for a type that meets no integer: an integer or temporal type is kept, and
+-- an unscaled decimal answers as the integer that it is
+abbrev pub scalar_dtype : DataType → Option DataType
+scalar_dtype (Decimal precision scale) = Some Int128
+scalar_dtype dtype = if is_integer dtype || is_temporal dtype then Some dtype else None
+
+-- the rule of a form in the word of the type
 abbrev pub scalar_rule : DataType → (WordType → Formula) → Option OperatorRule
 scalar_rule dtype form =
-    option_map (λ word. record { dtype = dtype; formula = bounded dtype (form word) }) (physical_word dtype)
+    option_and_then (λ answer. option_map
+    (λ word. record { dtype = answer; formula = bounded dtype (form word) }) (physical_word dtype))
+    (scalar_dtype dtype)
 
--- the row for a column with an integer on its right, or none
+-- the rule for a column with an integer on its right, or none
 abbrev pub scalar_right_rule : DataType → ScalarOp → ℤ → Option OperatorRule
 scalar_right_rule dtype op k = scalar_rule dtype (right_form op k)
 
--- the row for an integer with a column on its right, or none
+-- the rule for an integer with a column on its right, or none
 abbrev pub scalar_left_rule : ℤ → BinOp → DataType → Option OperatorRule
 scalar_left_rule k op dtype = scalar_rule dtype (left_form k op)
 
@@ -57,7 +66,7 @@ is_scalar_in (Some word) k = is_within (word_values word) k
 abbrev pub is_scalar_of : DataType → ℤ → Bool
 is_scalar_of dtype k = is_scalar_in (physical_word dtype) k
 
--- the row for a change to the unit, or none
+-- the rule for a change to the unit, or none
 abbrev pub unit_change_rule : DataType → TimeUnit → Option OperatorRule
 unit_change_rule (Datetime from y) to = giving (Datetime to y) (wrapped_datetime_by (unit_change from to) X)
 unit_change_rule (Duration from) to = giving (Duration to) (wrapped_duration_by (unit_change from to) X)

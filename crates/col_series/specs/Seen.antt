@@ -34,11 +34,6 @@ slot_seen (Duration unit) (Some (Flat (Whole tick))) = duration tick unit
 slot_seen Time (Some (Flat (Whole nanos))) = time nanos
 slot_seen _ _ = null
 
--- an answer, its value seen by a function
-abbrev pub seen_by : {X Y E : Type 0} → (X → Y) → Result X E → Result Y E
-seen_by view (Ok x) = Ok (view x)
-seen_by view (Err e) = Err e
-
 -- what the column shows at an index, or that the index is past the rows
 abbrev pub seen_at : Column → ℕ → Result Seen PolarsError
 seen_at column index = seen_by (slot_seen column.dtype) (slot_of column index)

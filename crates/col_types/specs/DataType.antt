@@ -52,6 +52,15 @@ is_temporal (Duration unit) = true
 is_temporal Time = true
 is_temporal _ = false
 
+-- Whether columns of the type exist so far. This is the one place that says so: each further type
+-- adds a line.
+abbrev pub is_built : DataType → Bool
+is_built Date = true
+is_built (Datetime unit name) = true
+is_built (Duration unit) = true
+is_built Time = true
+is_built _ = false
+
 -- Whether each valid slot is an integer: integers, booleans, temporal types and decimals.
 abbrev pub holds_integers : DataType → Bool
 holds_integers Boolean = true
@@ -94,10 +103,14 @@ abbrev pub is_wildcard : Option (List ℕ) → Bool
 is_wildcard None = false
 is_wildcard (Some name) = bytes_eq name (codes "*")
 
--- Whether a precision or a scale is missing, or is at most 38.
+-- The greatest number of digits of a decimal, and of those behind its point.
+abbrev pub max_digits : ℕ
+max_digits = 38
+
+-- Whether a precision or a scale is missing, or is within that number.
 abbrev pub is_allowed_digits : Option ℕ → Bool
 is_allowed_digits None = true
-is_allowed_digits (Some digits) = nat_le digits 38
+is_allowed_digits (Some digits) = nat_le digits max_digits
 
 -- Whether a type that isn't nested is refused as a target: a wildcard, or too many digits.
 abbrev pub is_bad_leaf : DataType → Bool

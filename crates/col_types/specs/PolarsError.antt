@@ -3,6 +3,11 @@ use Rattle.std.specs.Prelude.{◌≡◌, Result, Ok, Err}
 use Rattle.col_types.specs.declared.error.PolarsError.{PolarsError}
 use Rattle.col_types.specs.declared.error.PolarsError.TheVariants.{NoMemory}
 
+-- An answer, its value seen by a function.
+abbrev pub seen_by : {X Y E : Type 0} → (X → Y) → Result X E → Result Y E
+seen_by view (Ok x) = Ok (view x)
+seen_by view (Err e) = Err e
+
 -- The answer is the expected one, unless memory was wanting.
 abbrev pub Gives : {T : Type 0} → Result T PolarsError → Result T PolarsError → Type 0
 Gives (Ok x) expected = expected ≡ Ok x

@@ -1,9 +1,13 @@
 -- The names of units, and how they stand to each other.
-use Rattle.std.specs.Prelude.{ℕ, List, ◌∷◌, codes, ◌/◌, nat_lt, if◌then◌else◌}
+use Rattle.std.specs.Prelude.{ℕ, List, [], ◌∷◌, codes, ◌/◌, nat_lt, if◌then◌else◌}
 use Rattle.col_types.specs.declared.time_unit.TimeUnit.{TimeUnit}
 use Rattle.col_types.specs.declared.time_unit.TimeUnit.TheVariants.{Nanoseconds, Microseconds, Milliseconds}
 use Rattle.col_types.specs.declared.time_unit.ArrowTimeUnit.{ArrowTimeUnit}
 use Rattle.col_types.specs.declared.time_unit.ArrowTimeUnit.TheVariants as arrow
+
+-- All units, from the finest on.
+abbrev pub all_units : List TimeUnit
+all_units = Nanoseconds ∷ (Microseconds ∷ (Milliseconds ∷ []))
 
 -- The name in ASCII, as bytes.
 abbrev pub unit_name : TimeUnit → List ℕ
@@ -17,9 +21,13 @@ nanos_per_tick Nanoseconds = 1
 nanos_per_tick Microseconds = 1000
 nanos_per_tick Milliseconds = 1000000
 
+-- How many nanoseconds a day lasts.
+abbrev pub nanos_per_day : ℕ
+nanos_per_day = 86400000000000
+
 -- How many ticks a day has.
 abbrev pub ticks_per_day : TimeUnit → ℕ
-ticks_per_day unit = 86400000000000 / nanos_per_tick unit
+ticks_per_day unit = nanos_per_day / nanos_per_tick unit
 
 -- The unit of the two whose tick lasts longer.
 abbrev pub coarser_unit : TimeUnit → TimeUnit → TimeUnit
