@@ -1,7 +1,8 @@
 //! Scales of decimals.
 
 ghost use Rattle.std.specs.Prelude.{◌≡◌, ◌^◌, ◌≤◌, pos, unwrap_or};
-ghost use Rattle.col_model.specs.Arithmetic.{fitting_decimal, max_digits, rescaled_value};
+ghost use Rattle.col_types.specs.DataType.{max_digits};
+ghost use Rattle.col_model.specs.Arithmetic.{fitting_decimal, rescaled_value};
 
 /// The greatest number of digits, which a missing precision stands for.
 const MAX_DIGITS: usize = 38;

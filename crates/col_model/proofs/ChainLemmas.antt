@@ -1,14 +1,18 @@
 -- Casts between units: slots, and chains of casts.
-use Rattle.std.proofs.Common.{◌≡◌, ◌≤◌, ℕ, ℤ, Bool, true, ◌&&◌, nat_le, List, [], ◌∷◌, Option, Some, None, refl, ap, sym, ◌∙◌, arith}
+use Rattle.std.proofs.Common.{◌≡◌, ◌≤◌, ℕ, ℤ, Bool, true, false, if◌then◌else◌, List, [], ◌∷◌, Option, Some, None, refl, ap, sym, ◌∙◌, arith}
 use Rattle.std.specs.Option.{option_and_then}
 use Rattle.std.proofs.lemmas.Bool.{and_parts, and_from, leb-true, le-leb}
 use Rattle.col_types.specs.TimeUnit.{nanos_per_tick}
+use Rattle.col_types.specs.DataType.{same_zone}
 use Rattle.col_types.specs.declared.time_unit.TimeUnit.{TimeUnit}
+use Rattle.col_types.specs.declared.time_unit.TimeUnit.TheVariants.{Nanoseconds, Microseconds, Milliseconds}
 use Rattle.col_types.specs.declared.data_type.DataType.{DataType, Duration}
 use Rattle.col_model.specs.Value.{Value, Flat, Nested, Whole, Bytes, whole, integer_slot, on_slot}
-use Rattle.col_model.specs.Formula.{X, value_of}
+use Rattle.col_model.specs.Formula.{X, value_of, slot_by}
+use Rattle.col_model.specs.CastTable.{CastRule, rising}
+use Rattle.col_model.specs.ColumnCalls.{cast_slot}
 use Rattle.col_model.specs.UnitChange.{datetime_in_unit, duration_in_unit}
-use Rattle.col_model.specs.UnitLaws.{slot_cast, Clock, clock_unit, moments, is_no_coarser, is_no_finer, ComesBack, slot_through, last_stop, each_step, IsOneCast}
+use Rattle.col_model.specs.UnitLaws.{slot_cast, clock_unit, moments, is_no_coarser, is_no_finer, ComesBack, slot_through, each_step, IsOneCast}
 use Rattle.col_model.proofs.UnitLemmas.{moment_back, length_back, finer_moments, finer_lengths, coarser_moments, coarser_lengths}
 
 -- ---- slots
@@ -38,17 +42,59 @@ two_slots f g h two (Some (Flat (Whole x))) = go (f x) ∙ ap integer_slot (two 
     go None = refl
     go (Some y) = refl
 
+-- ---- the rule of a cast between units, whether or not the types are one
+
+-- a rule that is chosen on both sides of a test
+either_way : (same : Bool) (rule : Option CastRule) (slot : Option Value)
+    → cast_slot (if same then rule else rule) slot ≡ cast_slot rule slot
+either_way true rule slot = refl
+either_way false rule slot = refl
+
+-- a moment's slot in another unit
+abbrev moment_slot : TimeUnit → TimeUnit → Option Value → Option Value
+moment_slot u v slot = slot_by (datetime_in_unit u v X) slot
+
+-- a length's slot in another unit
+abbrev length_slot : TimeUnit → TimeUnit → Option Value → Option Value
+length_slot u v slot = slot_by (duration_in_unit u v X) slot
+
+cast_moments : (u v : TimeUnit) (y z : Option (List ℕ)) (slot : Option Value)
+    → slot_cast (moments (u, y)) (moments (v, z)) slot ≡ moment_slot u v slot
+cast_moments Nanoseconds Nanoseconds y z slot = either_way (same_zone y z) (rising X) slot
+cast_moments Nanoseconds Microseconds y z slot = refl
+cast_moments Nanoseconds Milliseconds y z slot = refl
+cast_moments Microseconds Nanoseconds y z slot = refl
+cast_moments Microseconds Microseconds y z slot = either_way (same_zone y z) (rising X) slot
+cast_moments Microseconds Milliseconds y z slot = refl
+cast_moments Milliseconds Nanoseconds y z slot = refl
+cast_moments Milliseconds Microseconds y z slot = refl
+cast_moments Milliseconds Milliseconds y z slot = either_way (same_zone y z) (rising X) slot
+
+cast_lengths : (u v : TimeUnit) (slot : Option Value)
+    → slot_cast (Duration u) (Duration v) slot ≡ length_slot u v slot
+cast_lengths Nanoseconds Nanoseconds slot = refl
+cast_lengths Nanoseconds Microseconds slot = refl
+cast_lengths Nanoseconds Milliseconds slot = refl
+cast_lengths Microseconds Nanoseconds slot = refl
+cast_lengths Microseconds Microseconds slot = refl
+cast_lengths Microseconds Milliseconds slot = refl
+cast_lengths Milliseconds Nanoseconds slot = refl
+cast_lengths Milliseconds Microseconds slot = refl
+cast_lengths Milliseconds Milliseconds slot = refl
+
 -- ---- a finer unit and back
 
 pub moments_back : ComesBack moments clock_unit
 moments_back (u, y) (v, z) before after finer h =
-    back_value (λ t. value_of (datetime_in_unit u v X) t t) (λ t. value_of (datetime_in_unit v u X) t t)
-    (λ t s. moment_back u v t s finer) before after h
+    cast_moments v u z y (Some after)
+    ∙ back_value (λ t. value_of (datetime_in_unit u v X) t t) (λ t. value_of (datetime_in_unit v u X) t t)
+      (λ t s. moment_back u v t s finer) before after (sym (cast_moments u v y z (Some before)) ∙ h)
 
 pub lengths_back : ComesBack Duration (λ unit. unit)
 lengths_back u v before after finer h =
-    back_value (λ t. value_of (duration_in_unit u v X) t t) (λ t. value_of (duration_in_unit v u X) t t)
-    (λ t s. length_back u v t s finer) before after h
+    cast_lengths v u (Some after)
+    ∙ back_value (λ t. value_of (duration_in_unit u v X) t t) (λ t. value_of (duration_in_unit v u X) t t)
+      (λ t s. length_back u v t s finer) before after (sym (cast_lengths u v (Some before)) ∙ h)
 
 -- ---- chains
 
@@ -84,19 +130,38 @@ one_cast dtype unit goes trans two from to (next ∷ stops) slot steps =
     ap (slot_through dtype next stops) (two from to next slot first.0 second.0)
     ∙ one_cast dtype unit goes trans two from next stops slot both
 
+-- two moments' casts are one, where their formulas are
+two_moments : (u v w : TimeUnit) (x y z : Option (List ℕ)) (slot : Option Value)
+    → moment_slot v w (moment_slot u v slot) ≡ moment_slot u w slot
+    → slot_cast (moments (v, y)) (moments (w, z)) (slot_cast (moments (u, x)) (moments (v, y)) slot)
+      ≡ slot_cast (moments (u, x)) (moments (w, z)) slot
+two_moments u v w x y z slot one =
+    ap (slot_cast (moments (v, y)) (moments (w, z))) (cast_moments u v x y slot)
+    ∙ cast_moments v w y z (moment_slot u v slot) ∙ one ∙ sym (cast_moments u w x z slot)
+
+two_lengths : (u v w : TimeUnit) (slot : Option Value)
+    → length_slot v w (length_slot u v slot) ≡ length_slot u w slot
+    → slot_cast (Duration v) (Duration w) (slot_cast (Duration u) (Duration v) slot)
+      ≡ slot_cast (Duration u) (Duration w) slot
+two_lengths u v w slot one =
+    ap (slot_cast (Duration v) (Duration w)) (cast_lengths u v slot)
+    ∙ cast_lengths v w (length_slot u v slot) ∙ one ∙ sym (cast_lengths u w slot)
+
 two_finer_moments : TwoAreOne moments clock_unit is_no_coarser
 two_finer_moments (u, x) (v, y) (w, z) slot first second =
-    two_slots _ _ _ (λ t. finer_moments u v w t first second) slot
+    two_moments u v w x y z slot (two_slots _ _ _ (λ t. finer_moments u v w t first second) slot)
 
 two_finer_lengths : TwoAreOne Duration (λ unit. unit) is_no_coarser
-two_finer_lengths u v w slot first second = two_slots _ _ _ (λ t. finer_lengths u v w t first second) slot
+two_finer_lengths u v w slot first second =
+    two_lengths u v w slot (two_slots _ _ _ (λ t. finer_lengths u v w t first second) slot)
 
 two_coarser_moments : TwoAreOne moments clock_unit is_no_finer
 two_coarser_moments (u, x) (v, y) (w, z) slot first second =
-    two_slots _ _ _ (λ t. coarser_moments u v w t first second) slot
+    two_moments u v w x y z slot (two_slots _ _ _ (λ t. coarser_moments u v w t first second) slot)
 
 two_coarser_lengths : TwoAreOne Duration (λ unit. unit) is_no_finer
-two_coarser_lengths u v w slot first second = two_slots _ _ _ (λ t. coarser_lengths u v w t first second) slot
+two_coarser_lengths u v w slot first second =
+    two_lengths u v w slot (two_slots _ _ _ (λ t. coarser_lengths u v w t first second) slot)
 
 pub finer_moments_one : IsOneCast moments clock_unit is_no_coarser
 finer_moments_one = one_cast moments clock_unit is_no_coarser no_coarser-trans two_finer_moments

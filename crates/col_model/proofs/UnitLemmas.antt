@@ -1,5 +1,5 @@
 -- Casts between units: what they do to one tick, to a slot, and along a chain.
-use Rattle.std.proofs.Common.{◌≡◌, ◌≢◌, ◌≤◌, ◌<◌, ◌^◌, ◌+◌, ◌-◌, ◌*◌, ◌/◌, ℕ, zero, suc, ℤ, pos, negsuc, neg_ℤ, ◌*ℤ◌, Bool, true, false, ◌&&◌, List, [], ◌∷◌, Option, Some, None, refl, ap, sym, ◌∙◌, cond, arith}
+use Rattle.std.proofs.Common.{◌≡◌, ◌≤◌, ◌^◌, ◌+◌, ◌-◌, ◌*◌, ◌/◌, ℕ, zero, suc, ℤ, pos, negsuc, neg_ℤ, ◌*ℤ◌, Bool, true, false, Option, Some, None, refl, ap, sym, ◌∙◌, cond, arith}
 use Rattle.std.specs.Int.{w64}
 use Rattle.std.specs.Option.{option_and_then}
 use Rattle.std.proofs.lemmas.Int.{ints}
@@ -7,7 +7,7 @@ use Rattle.std.proofs.lemmas.Bool.{false≢true, and_parts, and_from, leb-true, 
 use Rattle.col_types.specs.declared.time_unit.TimeUnit.{TimeUnit}
 use Rattle.col_types.specs.declared.time_unit.TimeUnit.TheVariants.{Nanoseconds, Microseconds, Milliseconds}
 use Rattle.col_model.specs.Arithmetic.{Interval, Signed, word_values, is_within, fitting_value, floor_by, trunc_by}
-use Rattle.col_model.specs.Formula.{Formula, X, value_of}
+use Rattle.col_model.specs.Formula.{X, value_of}
 use Rattle.col_model.specs.UnitChange.{datetime_in_unit, duration_in_unit}
 use Rattle.col_model.specs.UnitLaws.{is_no_coarser, is_no_finer}
 

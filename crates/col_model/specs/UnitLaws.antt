@@ -1,8 +1,8 @@
 -- Laws of casts between units: a finer unit and back, and chains of casts.
-use Rattle.std.specs.Prelude.{◌≡◌, ℕ, Bool, true, ◌&&◌, nat_le, List, [], ◌∷◌, Option, Some, None}
+use Rattle.std.specs.Prelude.{◌≡◌, ℕ, Bool, true, ◌&&◌, nat_le, List, [], ◌∷◌, Option, Some}
 use Rattle.col_types.specs.TimeUnit.{nanos_per_tick}
 use Rattle.col_types.specs.declared.time_unit.TimeUnit.{TimeUnit}
-use Rattle.col_types.specs.declared.data_type.DataType.{DataType, Datetime, Duration}
+use Rattle.col_types.specs.declared.data_type.DataType.{DataType, Datetime}
 use Rattle.col_types.specs.declared.cast_options.CastOptions.TheVariants.{NonStrict}
 use Rattle.col_model.specs.Value.{Value}
 use Rattle.col_model.specs.CastTable.{cast_rule}
