@@ -12,9 +12,11 @@ use Rattle.col_types.specs.declared.error.PolarsError.{PolarsError}
 use Rattle.col_model.specs.Broadcast.{broadcast_length}
 use Rattle.col_model.specs.Column.{Column, is_built_type}
 use Rattle.col_model.specs.CastTable.{cast_rule}
+use Rattle.col_model.specs.Chunked.{Chunked, column_of}
 use Rattle.col_model.specs.ColumnCalls.{cast_column}
 use Rattle.col_model.specs.OperatorTable.{OperatorRule, operator_rule}
-use Rattle.col_model.specs.OperatorCalls.{unsupported, binary_by}
+use Rattle.col_model.specs.OperationNames.{name_of_op, unsupported}
+use Rattle.col_model.specs.OperatorCalls.{binary_by}
 
 -- both with the type
 abbrev pub both : DataType → DataType × DataType
@@ -31,7 +33,11 @@ coerced_types left right = option_map both (supertype_of left right)
 
 -- a column in the type, a value null that has no room there
 abbrev pub cast_to : Column → DataType → Column
-cast_to column target = cast_column column target (cast_rule column.dtype target NonStrict)
+cast_to column target = cast_column column target NonStrict
+
+-- the columns of two alone, whatever their chunks
+abbrev pub columns_of_both : Chunked × Chunked → Column × Column
+columns_of_both chunked = (column_of chunked.0, column_of chunked.1)
 
 -- a cast leads from the one type to the other, and a column can have it
 pub record CanCast (from to : DataType) : Type 0 where
@@ -54,12 +60,16 @@ abbrev pub changes_type : DataType → DataType → Option (DataType × DataType
 changes_type left right None = false
 changes_type left right (Some types) = not (same_type types.0 left) || not (same_type types.1 right)
 
--- the row for an operator and two types that coercion leaves as they are, or that have no common types
-abbrev pub uncoerced_rule : BinOp → DataType → DataType → Option OperatorRule
+-- the rule for an operator and two types that coercion leaves as they are, or that have no common
+-- types; types that coercion would change are refused
+abbrev pub uncoerced_rule : BinOp → DataType → DataType → Result OperatorRule PolarsError
 uncoerced_rule op left right =
-    if changes_type left right (coerced_types left right) then None else operator_rule op left right
+    if changes_type left right (coerced_types left right)
+    then Err (unsupported (name_of_op op) left right)
+    else operator_rule op left right
 
--- two columns joined by an operator, or why they are not; types that coercion would change are refused
+-- two columns joined by an operator, or why they are not
 abbrev pub uncoerced_of : BinOp → Column → Column → Result Column PolarsError
 uncoerced_of op left right =
-    binary_by op left right (broadcast_length (length left.slots) (length right.slots)) (uncoerced_rule op left.dtype right.dtype)
+    binary_by left right (broadcast_length (length left.slots) (length right.slots))
+    (uncoerced_rule op left.dtype right.dtype)

@@ -1,6 +1,7 @@
 // Common types of two columns.
 ghost use Rattle.std.specs.Prelude.{◌≡◌, true, false, Ok, IfSome};
-ghost use Rattle.col_types.specs.PolarsError.{Gives};
+ghost use Rattle.col_types.specs.PolarsError.{GivesBy, seen_by};
+ghost use Rattle.col_model.specs.Chunked.{column_of};
 ghost use Rattle.col_model.specs.Column.{is_built_type};
 ghost use Rattle.col_arith.specs.Coercion.{coerced_types, coerced_of, cast_to, changes_type};
 ghost use Rattle.col_arith.specs.Coercion.{uncoerced_rule, CanCast};
@@ -75,7 +76,8 @@ fn cast_both(
 /// time, or two lengths, in the coarser unit; a date and a length of time as they are; all others
 /// in their supertype. Refused where there is none (`Types`).
 pub fn coerce_lhs_rhs(alloc: Global, lhs: &Series, rhs: &Series) -> PolarsResult<(Series, Series)>
-    ensures columns { Gives result (coerced_of lhs.now rhs.now) }
+    ensures columns { GivesBy columns_of_both result
+        (coerced_of lhs.now.column rhs.now.column) }
 {
     lhs.known();
     rhs.known();
@@ -95,7 +97,7 @@ pub fn coerce_lhs_rhs_owned(
     lhs: Series,
     rhs: Series,
 ) -> PolarsResult<(Series, Series)>
-    ensures columns { Gives result (coerced_of lhs rhs) }
+    ensures columns { GivesBy columns_of_both result (coerced_of lhs.column rhs.column) }
 {
     coerce_lhs_rhs(alloc, &lhs, &rhs)
 }

@@ -18,7 +18,7 @@ use std::alloc::Global;
 /// neither the lengths are equal nor one of them is 1 (`Lengths`), then where the table has no
 /// row for the types (`Types`). The answer has the left name.
 pub fn binary(alloc: Global, op: BinOp, left: &Series, right: &Series) -> PolarsResult<Series>
-    ensures column { Gives result (binary_of op left.now right.now) }
+    ensures column { GivesBy column_of result (binary_of op left.now.column right.now.column) }
 {
     joined(
         alloc,
@@ -36,7 +36,7 @@ pub fn uncoerced_binary(
     left: &Series,
     right: &Series,
 ) -> PolarsResult<Series>
-    ensures column { Gives result (uncoerced_of op left.now right.now) }
+    ensures column { GivesBy column_of result (uncoerced_of op left.now.column right.now.column) }
 {
     left.known();
     right.known();

@@ -14,14 +14,14 @@ use std::alloc::Global;
 /// The column joined with an integer on its right, in the column's type. Refused where the type has
 /// no integers (`Types`), then where its word doesn't hold this one (`Scalar`).
 pub fn scalar_right(alloc: Global, column: &Series, op: ScalarOp, rhs: i128) -> PolarsResult<Series>
-    ensures column { Gives result (scalar_right_of column.now op rhs) }
+    ensures column { GivesBy column_of result (scalar_right_of column.now.column op rhs) }
 {
     scalar(alloc, column, ScalarForm::Right(op), rhs)
 }
 
 /// An integer joined with the column on its right, in the column's type. Refused as `scalar_right`.
 pub fn scalar_left(alloc: Global, lhs: i128, op: BinOp, column: &Series) -> PolarsResult<Series>
-    ensures column { Gives result (scalar_left_of lhs op column.now) }
+    ensures column { GivesBy column_of result (scalar_left_of lhs op column.now.column) }
 {
     scalar(alloc, column, ScalarForm::Left(op), lhs)
 }

@@ -1,20 +1,21 @@
 // A column: a name, a type and slots.
 ghost use Rattle.std.specs.Prelude.{◌≡◌, ◌<◌, ◌^◌, true, length, map};
 ghost use Rattle.std.specs.List.{list_all};
-ghost use Rattle.col_types.specs.PolarsError.{Gives};
+ghost use Rattle.col_types.specs.PolarsError.{Gives, GivesBy, seen_by};
 ghost use Rattle.col_types.specs.declared.cast_options.CastOptions.TheVariants.{Strict, NonStrict};
 ghost use Rattle.col_model.specs.Value.{integer_slot};
 ghost use Rattle.col_model.specs.Column.{IsValidColumn, is_built_type};
-ghost use Rattle.col_model.specs.ColumnCalls.{column_from, cast_of, is_built_target};
+ghost use Rattle.col_model.specs.Chunked.{column_of, in_one_chunk};
+ghost use Rattle.col_model.specs.ColumnCalls.{chunked_from, cast_of, is_built_target};
 ghost use Rattle.col_model.specs.OperatorCalls.{in_unit_of, shifted};
-ghost use Rattle.col_series.specs.Seen.{value_seen, slot_seen, seen_by, seen_at};
+ghost use Rattle.col_series.specs.Seen.{value_seen, slot_seen, seen_at};
 ghost use Rattle.col_series.specs.Slots.{is_fit, ticks_column};
 
 use crate::cast::cast_slots;
 use crate::shift::shifted_slots;
 use crate::slots::{ROW_LIMIT, first_unfit, ticks};
-use crate::tick_row::changed_list;
-use crate::unit_row::unit_row;
+use crate::tick_rule::changed_list;
+use crate::unit_rule::unit_change_rule;
 use crate::{
     AnyValue, CastOptions, DataType, OpName, PlSmallStr, PolarsError, PolarsResult, TimeUnit,
 };
@@ -33,16 +34,17 @@ pub struct Series {
 impl Model for Series {
     ghost use Rattle.std.specs.Coded.{codes};
     ghost use Rattle.col_types.specs.contracts.data_type.DataType as data_type;
-    ghost use Rattle.col_model.specs.Column.{Column};
+    ghost use Rattle.col_model.specs.Chunked.{Chunked};
 
-    ghost Value = { Column };
+    ghost Value = { Chunked };
 
     ghost coded = { Prim.hlevel (codes, data_type.the_row.coded) };
 
+    ghost use Rattle.col_model.specs.Chunked.{in_one_chunk};
     ghost use Rattle.col_model.specs.Column.{IsValidColumn};
     ghost use Rattle.col_series.specs.Slots.{ticks_column};
 
-    ghost view = { λ s. ticks_column s.name s.dtype s.slots.value.items };
+    ghost view = { λ s. in_one_chunk (ticks_column s.name s.dtype s.slots.value.items) };
 
     ghost invariant = { λ s. IsValidColumn (ticks_column s.name s.dtype s.slots.value.items) };
 }
@@ -57,7 +59,7 @@ impl Series {
         slots: &[Option<i128>],
     ) -> PolarsResult<Series>
         requires built_type { is_built_type dtype.now ≡ true }
-        ensures column { Gives result (column_from name dtype.now slots.now) }
+        ensures column { Gives result (chunked_from name dtype.now slots.now) }
     {
         match first_unfit(dtype, slots) {
             Some(row) => return Err(PolarsError::Fit { row }),
@@ -82,7 +84,7 @@ impl Series {
         requires built_type { is_built_type dtype ≡ true }
         requires fit { list_all (is_fit dtype) ticks.items ≡ true }
         requires short { length ticks.items < 2 ^ 32 }
-        ensures column { Gives result (Ok (ticks_column name dtype ticks.items)) }
+        ensures column { Gives result (Ok (in_one_chunk (ticks_column name dtype ticks.items))) }
     {
         let slots = Rc::new(alloc, ticks)?;
         Ok(Series { name, dtype, slots })
@@ -90,36 +92,36 @@ impl Series {
 
     /// The name.
     pub fn name(&self) -> &PlSmallStr
-        ensures name { result.now ≡ self.now.name }
+        ensures name { result.now ≡ self.now.column.name }
     {
         &self.name
     }
 
     /// The type.
     pub fn dtype(&self) -> &DataType
-        ensures dtype { result.now ≡ self.now.dtype }
+        ensures dtype { result.now ≡ self.now.column.dtype }
     {
         &self.dtype
     }
 
     /// The number of rows.
     pub fn len(&self) -> usize
-        ensures length { result ≡ length self.now.slots }
+        ensures length { result ≡ length self.now.column.slots }
     {
         self.slots.len()
     }
 
     /// Does nothing: its contract tells a caller that the column is valid.
     pub fn known(&self)
-        ensures valid { IsValidColumn self.now }
+        ensures valid { IsValidColumn self.now.column }
     {
         let _ = &self.slots;
     }
 
     /// The slots as they are kept: null or a tick, which is a value of the type.
     pub fn ticks(&self) -> &[Option<i64>]
-        ensures ticks { map integer_slot result.now ≡ self.now.slots }
-        ensures fit { list_all (is_fit self.now.dtype) result.now ≡ true }
+        ensures ticks { map integer_slot result.now ≡ self.now.column.slots }
+        ensures fit { list_all (is_fit self.now.column.dtype) result.now ≡ true }
         ensures short { length result.now < 2 ^ 32 }
     {
         self.slots.as_slice()
@@ -127,7 +129,7 @@ impl Series {
 
     /// The value of a row. Refused at an index past the rows (`OutOfBounds`). It takes no memory.
     pub fn get(&self, index: usize) -> PolarsResult<AnyValue<'_>>
-        ensures value { seen_by value_seen result ≡ seen_at self.now index }
+        ensures value { seen_by value_seen result ≡ seen_at self.now.column index }
     {
         let len = self.len();
         if index >= len {
@@ -138,8 +140,8 @@ impl Series {
 
     /// The value of a row that is there. It takes no memory.
     pub fn get_unchecked(&self, index: usize) -> AnyValue<'_>
-        requires row { index < length self.now.slots }
-        ensures value { Ok (value_seen result) ≡ seen_at self.now index }
+        requires row { index < length self.now.column.slots }
+        ensures value { Ok (value_seen result) ≡ seen_at self.now.column index }
     {
         value_of(&self.dtype, self.slots[index])
     }
@@ -162,7 +164,7 @@ impl Series {
     /// (`CastPair`).
     pub fn cast(&self, alloc: Global, dtype: &DataType) -> PolarsResult<Series>
         requires built_target { is_built_target dtype.now ≡ true }
-        ensures column { Gives result (cast_of self.now dtype.now NonStrict) }
+        ensures column { GivesBy column_of result (cast_of self.now.column dtype.now NonStrict) }
     {
         self.cast_with_options(alloc, dtype, CastOptions::NonStrict)
     }
@@ -171,7 +173,7 @@ impl Series {
     /// such row).
     pub fn strict_cast(&self, alloc: Global, dtype: &DataType) -> PolarsResult<Series>
         requires built_target { is_built_target dtype.now ≡ true }
-        ensures column { Gives result (cast_of self.now dtype.now Strict) }
+        ensures column { GivesBy column_of result (cast_of self.now.column dtype.now Strict) }
     {
         self.cast_with_options(alloc, dtype, CastOptions::Strict)
     }
@@ -185,7 +187,7 @@ impl Series {
         options: CastOptions,
     ) -> PolarsResult<Series>
         requires built_target { is_built_target dtype.now ≡ true }
-        ensures column { Gives result (cast_of self.now dtype.now options) }
+        ensures column { GivesBy column_of result (cast_of self.now.column dtype.now options) }
     {
         let slots = match cast_slots(alloc, &self.dtype, dtype, options, &self.slots) {
             Ok(slots) => slots,
@@ -203,16 +205,16 @@ impl Series {
     /// one, and in a finer one what leaves 64 bits wraps. Refused where the type has no unit
     /// (`Types`).
     pub fn cast_time_unit(&self, alloc: Global, unit: TimeUnit) -> PolarsResult<Series>
-        ensures column { Gives result (in_unit_of self.now unit) }
+        ensures column { GivesBy column_of result (in_unit_of self.now.column unit) }
     {
-        match unit_row(&self.dtype, unit) {
+        match unit_change_rule(&self.dtype, unit) {
             None => Err(PolarsError::Types {
                 op: OpName::Coerce,
                 left: self.dtype.kind(),
                 right: self.dtype.kind(),
             }),
-            Some((dtype, row)) => {
-                let slots = changed_list(alloc, row, &self.slots)?;
+            Some((dtype, rule)) => {
+                let (slots, _) = changed_list(alloc, rule, &self.slots)?;
                 let name = self.name.clone()?;
                 Ok(Series { name, dtype, slots })
             }
@@ -222,7 +224,7 @@ impl Series {
     /// The column with each slot so many rows further down, or up for a negative number. A row that
     /// none moves to is null.
     pub fn shift(&self, alloc: Global, periods: i64) -> PolarsResult<Series>
-        ensures column { Gives result (Ok (shifted self.now periods)) }
+        ensures column { GivesBy column_of result (Ok (shifted self.now.column periods)) }
     {
         let ticks = shifted_slots(alloc, periods, self.slots.as_slice())?;
         let name = self.name.clone()?;
