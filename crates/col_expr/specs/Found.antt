@@ -5,6 +5,7 @@ use Rattle.col_types.specs.declared.data_type.DataType.{DataType}
 use Rattle.col_types.specs.declared.cast_options.CastOptions.{CastOptions}
 use Rattle.col_types.specs.declared.error.PolarsError.{PolarsError}
 use Rattle.col_model.specs.Column.{Column}
+use Rattle.col_model.specs.Chunked.{Chunked, column_of}
 use Rattle.col_model.specs.Broadcast.{column_slots}
 use Rattle.col_model.specs.ColumnCalls.{cast_of}
 use Rattle.col_model.specs.OperatorCalls.{scalar_right_of, scalar_left_of, in_unit_of, shifted}
@@ -13,6 +14,7 @@ use Rattle.col_expr.specs.declared.error.EvalError.TheVariants as refusals
 use Rattle.col_expr.specs.declared.node.UnaryOp.{UnaryOp}
 use Rattle.col_expr.specs.declared.node.UnaryOp.TheVariants as operations
 use Rattle.col_expr.specs.Tree.{Tree}
+use Rattle.col_expr.specs.Numbers.{Numbers}
 use Rattle.col_expr.specs.Meaning.{name_of, dtype_of, rows_of, slot_at, flag_of}
 use Rattle.col_expr.specs.Refusal.{at_node, first_refusal, Unless}
 
@@ -31,16 +33,18 @@ pub record IsFineBy (inputs : List Column) (refused : Option EvalError) (tree : 
   pub column_is : IsColumnOf inputs tree column
 
 -- the answer for a part with this first refusal
-abbrev pub IsFoundBy : List Column → Option EvalError → Tree → Result Column EvalError → Type 0
-IsFoundBy inputs refused tree (Ok column) = IsFineBy inputs refused tree column
+abbrev pub IsFoundBy : List Column → Option EvalError → Tree → Result Chunked EvalError → Type 0
+IsFoundBy inputs refused tree (Ok chunked) = IsFineBy inputs refused tree (column_of chunked)
 IsFoundBy inputs refused tree (Err error) = Unless error (refused ≡ Some error)
 
--- the same, where the nodes are numbered from `first` on
-abbrev pub IsFine : List Column → ℕ → Tree → Column → Type 0
-IsFine inputs first tree column = IsFineBy inputs (first_refusal inputs first tree) tree column
+-- a part with no refused node, where the nodes have these numbers, and its column
+abbrev pub IsFine : List Column → Numbers → Tree → Column → Type 0
+IsFine inputs numbers tree column = IsFineBy inputs (first_refusal inputs numbers tree) tree column
 
-abbrev pub IsFound : List Column → ℕ → Tree → Result Column EvalError → Type 0
-IsFound inputs first tree answer = IsFoundBy inputs (first_refusal inputs first tree) tree answer
+-- the answer for a part whose nodes have these numbers
+abbrev pub IsFound : List Column → Numbers → Tree → Result Chunked EvalError → Type 0
+IsFound inputs numbers tree answer =
+    IsFoundBy inputs (first_refusal inputs numbers tree) tree answer
 
 -- a column's answer as that of a node
 abbrev pub numbered : {T : Type 0} → ℕ → Result T PolarsError → Result T EvalError

@@ -1,6 +1,7 @@
 pub mod Tree
 pub mod Postfix
 pub mod TreeCode
+pub mod Numbers
 pub mod Meaning
 pub mod Refusal
 pub mod Built

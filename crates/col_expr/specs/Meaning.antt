@@ -1,6 +1,7 @@
 -- The name, the type, the rows and each slot of a node, over the columns of an expression.
 use Rattle.std.specs.Prelude.{ℕ, ℤ, ◌+◌, Bool, false, List, [], length, Option, Some, None, slice_get, slice_index_or, unwrap_or, if◌then◌else◌}
 use Rattle.std.specs.Option.{option_map, option_and_then}
+use Rattle.std.specs.Result.{result_ok}
 use Rattle.col_types.specs.DataType.{is_expression_target}
 use Rattle.col_types.specs.declared.data_type.DataType.{DataType, Boolean}
 use Rattle.col_types.specs.declared.cast_options.CastOptions.{CastOptions}
@@ -15,33 +16,39 @@ use Rattle.col_model.specs.Broadcast.{column_slots, broadcast_length, operand_ro
 use Rattle.col_model.specs.CastTable.{CastRule, cast_rule, resolved_target}
 use Rattle.col_model.specs.OperatorTable.{OperatorRule, operator_rule}
 use Rattle.col_model.specs.ScalarTable.{scalar_right_rule, scalar_left_rule, is_scalar_of, unit_change_rule}
-use Rattle.col_model.specs.ColumnCalls.{cast_slot}
-use Rattle.col_model.specs.OperatorCalls.{slot_by, slots_by}
+use Rattle.col_model.specs.Formula.{slot_by, slots_by}
+use Rattle.col_model.specs.ColumnCalls.{cast_slot, cast_flag}
 use Rattle.col_expr.specs.Tree.{Tree, Input, Cast, Binary, ScalarRight, ScalarLeft, InUnit, Shift}
 
--- ---- the rows of the tables, where the operands have types
+-- ---- the rules of the tables, where the operands have types
 
+-- the rule of a cast; what its target leaves open is taken from the operand
 abbrev pub cast_rule_for : Option DataType → DataType → CastOptions → Option CastRule
 cast_rule_for None target options = None
-cast_rule_for (Some from) target options = cast_rule from target options
+cast_rule_for (Some from) target options = cast_rule from (resolved_target from target) options
 
+-- the rule of an operator
 abbrev pub operator_rule_for : BinOp → Option DataType → Option DataType → Option OperatorRule
 operator_rule_for op None right = None
 operator_rule_for op (Some left) None = None
-operator_rule_for op (Some left) (Some right) = operator_rule op left right
+operator_rule_for op (Some left) (Some right) = result_ok (operator_rule op left right)
 
+-- the rule of an operand with an integer on its right
 abbrev pub scalar_right_rule_for : Option DataType → ScalarOp → ℤ → Option OperatorRule
 scalar_right_rule_for None op value = None
 scalar_right_rule_for (Some dtype) op value = scalar_right_rule dtype op value
 
+-- the rule of an integer with an operand on its right
 abbrev pub scalar_left_rule_for : ℤ → BinOp → Option DataType → Option OperatorRule
 scalar_left_rule_for value op None = None
 scalar_left_rule_for value op (Some dtype) = scalar_left_rule value op dtype
 
+-- the rule of a change to a unit
 abbrev pub unit_change_rule_for : Option DataType → TimeUnit → Option OperatorRule
 unit_change_rule_for None unit = None
 unit_change_rule_for (Some dtype) unit = unit_change_rule dtype unit
 
+-- the rows of two operands joined, where both have rows that fit each other
 abbrev pub broadcast_length_for : Option ℕ → Option ℕ → Option ℕ
 broadcast_length_for None right = None
 broadcast_length_for (Some left) None = None
@@ -53,26 +60,26 @@ cast_dtype from target =
     if is_expression_target target then option_map (λ dtype. resolved_target dtype target) from
     else None
 
--- the type of a row's answer
+-- the type of a rule's answer
 abbrev pub rule_dtype : Option OperatorRule → Option DataType
 rule_dtype rule = option_map (λ (r : OperatorRule). r.dtype) rule
 
--- the slot of a row on one slot, null where there is no row
+-- the slot of a rule on one slot, null where there is no rule
 abbrev pub rule_slot : Option OperatorRule → Option Value → Option Value
 rule_slot None slot = None
-rule_slot (Some rule) slot = slot_by rule slot
+rule_slot (Some rule) slot = slot_by rule.formula slot
 
--- the slot of a row on two slots, null where there is no row
+-- the slot of a rule on two slots, null where there is no rule
 abbrev pub rule_slots : Option OperatorRule → Option Value → Option Value → Option Value
 rule_slots None left right = None
-rule_slots (Some rule) left right = slots_by rule left right
+rule_slots (Some rule) left right = slots_by rule.formula left right
 
 -- whether the operand's type has a word, and the word has the integer
 abbrev pub is_scalar_for : Option DataType → ℤ → Bool
 is_scalar_for None k = false
 is_scalar_for (Some dtype) k = is_scalar_of dtype k
 
--- the slot of a scalar's row, null where the operand's word doesn't have the integer
+-- the slot of a scalar's rule, null where the operand's word doesn't have the integer
 abbrev pub scalar_slot : Option DataType → ℤ → Option OperatorRule → Option Value → Option Value
 scalar_slot dtype k rule slot = if is_scalar_for dtype k then rule_slot rule slot else None
 
@@ -88,7 +95,7 @@ name_of inputs (ScalarLeft value op operand) = name_of inputs operand
 name_of inputs (InUnit operand unit) = name_of inputs operand
 name_of inputs (Shift operand periods) = name_of inputs operand
 
--- the type of a node, none where an operand has none, a cast's target is bad, or no table has a row
+-- the type of a node, none where an operand has none, a cast's target is bad, or no table has a rule
 abbrev pub dtype_of : List Column → Tree → Option DataType
 dtype_of inputs (Input index) = option_map (λ (c : Column). c.dtype) (slice_get inputs index)
 dtype_of inputs (Cast operand target options) = cast_dtype (dtype_of inputs operand) target
@@ -113,6 +120,7 @@ rows_of inputs (ScalarLeft value op operand) = rows_of inputs operand
 rows_of inputs (InUnit operand unit) = rows_of inputs operand
 rows_of inputs (Shift operand periods) = rows_of inputs operand
 
+-- how many rows a node has, and 0 where that isn't defined
 abbrev pub row_count : List Column → Tree → ℕ
 row_count inputs tree = unwrap_or (rows_of inputs tree) 0
 
@@ -142,10 +150,24 @@ slot_at inputs (InUnit operand unit) row =
 slot_at inputs (Shift operand periods) row =
     option_and_then (slot_at inputs operand) (row_before (row_count inputs operand) periods row)
 
--- the flag of an input is its own; no other node's is kept yet
+-- the slots of a node in all its rows
+abbrev pub slots_of : List Column → Tree → List (Option Value)
+slots_of inputs tree = column_slots (slot_at inputs tree) (row_count inputs tree)
+
+-- the flag of a cast of an operand of this type, these slots and this flag
+abbrev pub cast_flag_for : Option DataType → DataType → List (Option Value) → IsSorted → IsSorted
+cast_flag_for None target slots flag = Not
+cast_flag_for (Some from) target slots flag =
+    cast_flag from (resolved_target from target) slots flag
+
+-- the sorted flag of a node: an input's own, a cast's where the cast keeps the order of its operand's
+-- slots, and no claim elsewhere
 abbrev pub flag_of : List Column → Tree → IsSorted
 flag_of inputs (Input index) =
     unwrap_or (option_map (λ (c : Column). c.flag) (slice_get inputs index)) Not
+flag_of inputs (Cast operand target options) =
+    cast_flag_for (dtype_of inputs operand) target (slots_of inputs operand)
+    (flag_of inputs operand)
 flag_of inputs _ = Not
 
 -- the column of an expression of which no node is refused
@@ -153,7 +175,7 @@ abbrev pub result_column : List Column → Tree → Column
 result_column inputs tree = record {
   name = unwrap_or (name_of inputs tree) [];
   dtype = unwrap_or (dtype_of inputs tree) Boolean;
-  slots = column_slots (slot_at inputs tree) (row_count inputs tree);
+  slots = slots_of inputs tree;
   flag = flag_of inputs tree;
 }
 

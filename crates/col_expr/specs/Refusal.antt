@@ -1,6 +1,6 @@
 -- Which node of an expression is refused first, and why.
 use Rattle.std.specs.Prelude.{◌≡◌, ℕ, ◌+◌, ℤ, nat_lt, List, length, Option, Some, None, Result, Ok, Err, if◌then◌else◌}
-use Rattle.std.specs.Option.{option_map}
+use Rattle.std.specs.Option.{option_map, option_or}
 use Rattle.col_types.specs.DataType.{is_expression_target}
 use Rattle.col_types.specs.declared.data_type.DataType.{DataType}
 use Rattle.col_types.specs.declared.cast_options.CastOptions.{CastOptions}
@@ -8,15 +8,16 @@ use Rattle.col_types.specs.declared.error.PolarsError.{PolarsError}
 use Rattle.col_types.specs.declared.error.PolarsError.TheVariants as errors
 use Rattle.col_model.specs.Column.{Column}
 use Rattle.col_model.specs.Value.{Value}
-use Rattle.col_model.specs.Broadcast.{column_slots}
 use Rattle.col_model.specs.OperatorTable.{OperatorRule}
 use Rattle.col_model.specs.ColumnCalls.{pair_refusal, unless_refused}
 use Rattle.col_expr.specs.declared.error.EvalError.{EvalError}
 use Rattle.col_expr.specs.declared.error.EvalError.TheVariants as refusals
-use Rattle.col_expr.specs.Tree.{Tree, Input, Cast, Binary, ScalarRight, ScalarLeft, InUnit, Shift, node_count}
-use Rattle.col_expr.specs.Meaning.{dtype_of, rows_of, row_count, slot_at, cast_rule_for, operator_rule_for, scalar_right_rule_for, scalar_left_rule_for, is_scalar_for, unit_change_rule_for, broadcast_length_for, result_column}
+use Rattle.col_expr.specs.Tree.{Tree, Input, Cast, Binary, ScalarRight, ScalarLeft, InUnit, Shift}
+use Rattle.col_expr.specs.Numbers.{Numbers, number_at, below, left_of, right_of, numbers_from}
+use Rattle.col_expr.specs.Meaning.{dtype_of, rows_of, row_count, slots_of, cast_rule_for, operator_rule_for, scalar_right_rule_for, scalar_left_rule_for, is_scalar_for, unit_change_rule_for, broadcast_length_for, result_column}
 
--- a column's refusal as that of a node. No call that a node makes is refused for the last causes.
+-- a column's refusal as that of a node. Only want of memory ends as want of memory; no call that a
+-- node makes is refused for the last causes, and were one, the node would be told as unsupported.
 abbrev pub at_node : ℕ → PolarsError → EvalError
 at_node node (errors.Lengths left right) = refusals.Lengths node left right
 at_node node (errors.Types op left right) = refusals.Unsupported node
@@ -26,16 +27,16 @@ at_node node (errors.Scale scale) = refusals.Unsupported node
 at_node node (errors.Scalar value) = refusals.Scalar node
 at_node node (errors.Strict row) = refusals.Strict node row
 at_node node errors.NoMemory = refusals.NoMemory
-at_node node (errors.Precision precision digits) = refusals.NoMemory
-at_node node errors.GatherZero = refusals.NoMemory
-at_node node errors.Zone = refusals.NoMemory
-at_node node (errors.Calendar row) = refusals.NoMemory
-at_node node (errors.Fit row) = refusals.NoMemory
-at_node node errors.Format = refusals.NoMemory
-at_node node (errors.OutOfBounds index len) = refusals.NoMemory
-at_node node errors.SchemaMismatch = refusals.NoMemory
-at_node node (errors.TooLong len) = refusals.NoMemory
-at_node node errors.FalseMark = refusals.NoMemory
+at_node node (errors.Precision precision digits) = refusals.Unsupported node
+at_node node errors.GatherZero = refusals.Unsupported node
+at_node node errors.Zone = refusals.Unsupported node
+at_node node (errors.Calendar row) = refusals.Unsupported node
+at_node node (errors.Fit row) = refusals.Unsupported node
+at_node node errors.Format = refusals.Unsupported node
+at_node node (errors.OutOfBounds index len) = refusals.Unsupported node
+at_node node errors.SchemaMismatch = refusals.Unsupported node
+at_node node (errors.TooLong len) = refusals.Unsupported node
+at_node node errors.FalseMark = refusals.Unsupported node
 
 -- the refusal of a cast of an operand of this type and these slots to a target that isn't bad
 abbrev pub pair_refusal_at : ℕ → Option DataType → DataType → CastOptions → List (Option Value) →
@@ -53,7 +54,7 @@ cast_refusal_at node from target options slots =
     if is_expression_target target then pair_refusal_at node from target options slots
     else Some (refusals.BadType node)
 
--- a node without a row in its table is refused
+-- a node without a rule in its table is refused
 abbrev pub unsupported_at : ℕ → Option OperatorRule → Option EvalError
 unsupported_at node None = Some (refusals.Unsupported node)
 unsupported_at node (Some rule) = None
@@ -76,7 +77,7 @@ refusal_at inputs node (Input index) =
     else Some (refusals.NoColumn node index (length inputs))
 refusal_at inputs node (Cast operand target options) =
     cast_refusal_at node (dtype_of inputs operand) target options
-    (column_slots (slot_at inputs operand) (row_count inputs operand))
+    (slots_of inputs operand)
 refusal_at inputs node (Binary op left right) =
     binary_refusal_at node (row_count inputs left) (row_count inputs right)
     (broadcast_length_for (rows_of inputs left) (rows_of inputs right))
@@ -91,37 +92,37 @@ refusal_at inputs node (InUnit operand unit) =
     unsupported_at node (unit_change_rule_for (dtype_of inputs operand) unit)
 refusal_at inputs node (Shift operand periods) = None
 
--- the first, or else the second
-abbrev pub or_else : {T : Type 0} → Option T → Option T → Option T
-or_else None second = second
-or_else (Some x) second = Some x
+-- the refusal of the first refused node in postfix order, where the nodes have these numbers
+abbrev pub first_refusal : List Column → Numbers → Tree → Option EvalError
+first_refusal inputs numbers (Input index) = refusal_at inputs (number_at numbers) (Input index)
+first_refusal inputs numbers (Cast operand target options) =
+    option_or (first_refusal inputs (below numbers) operand)
+    (refusal_at inputs (number_at numbers) (Cast operand target options))
+first_refusal inputs numbers (Binary op left right) =
+    option_or (first_refusal inputs (left_of numbers) left)
+    (option_or (first_refusal inputs (right_of numbers) right)
+    (refusal_at inputs (number_at numbers) (Binary op left right)))
+first_refusal inputs numbers (ScalarRight operand op k) =
+    option_or (first_refusal inputs (below numbers) operand)
+    (refusal_at inputs (number_at numbers) (ScalarRight operand op k))
+first_refusal inputs numbers (ScalarLeft k op operand) =
+    option_or (first_refusal inputs (below numbers) operand)
+    (refusal_at inputs (number_at numbers) (ScalarLeft k op operand))
+first_refusal inputs numbers (InUnit operand unit) =
+    option_or (first_refusal inputs (below numbers) operand)
+    (refusal_at inputs (number_at numbers) (InUnit operand unit))
+first_refusal inputs numbers (Shift operand periods) =
+    option_or (first_refusal inputs (below numbers) operand)
+    (refusal_at inputs (number_at numbers) (Shift operand periods))
 
--- the refusal of the least refused node, where nodes are numbered in postfix order from `first` on
-abbrev pub first_refusal : List Column → ℕ → Tree → Option EvalError
-first_refusal inputs first (Input index) = refusal_at inputs first (Input index)
-first_refusal inputs first (Cast operand dtype options) =
-    or_else (first_refusal inputs first operand)
-    (refusal_at inputs (first + node_count operand) (Cast operand dtype options))
-first_refusal inputs first (Binary op left right) =
-    or_else (first_refusal inputs first left)
-    (or_else (first_refusal inputs (first + node_count left) right)
-    (refusal_at inputs (first + node_count left + node_count right) (Binary op left right)))
-first_refusal inputs first (ScalarRight operand op value) =
-    or_else (first_refusal inputs first operand)
-    (refusal_at inputs (first + node_count operand) (ScalarRight operand op value))
-first_refusal inputs first (ScalarLeft value op operand) =
-    or_else (first_refusal inputs first operand)
-    (refusal_at inputs (first + node_count operand) (ScalarLeft value op operand))
-first_refusal inputs first (InUnit operand unit) =
-    or_else (first_refusal inputs first operand)
-    (refusal_at inputs (first + node_count operand) (InUnit operand unit))
-first_refusal inputs first (Shift operand periods) =
-    or_else (first_refusal inputs first operand)
-    (refusal_at inputs (first + node_count operand) (Shift operand periods))
+-- the column of a tree whose nodes have these numbers, or its first refused node
+abbrev pub outcome_by : List Column → Numbers → Tree → Result Column EvalError
+outcome_by inputs numbers tree =
+    unless_refused (first_refusal inputs numbers tree) (result_column inputs tree)
 
--- the column of an expression, or its first refused node
+-- the column of an expression, or its first refused node in postfix order
 abbrev pub outcome : List Column → Tree → Result Column EvalError
-outcome inputs tree = unless_refused (first_refusal inputs 0 tree) (result_column inputs tree)
+outcome inputs tree = outcome_by inputs (numbers_from 0 tree) tree
 
 -- ---- want of memory aside
 
@@ -134,3 +135,9 @@ Unless error fact = fact
 abbrev pub Gives : {T : Type 0} → Result T EvalError → Result T EvalError → Type 0
 Gives (Ok x) expected = expected ≡ Ok x
 Gives (Err error) expected = Unless error (expected ≡ Err error)
+
+-- the same, where the answer is seen by a function
+abbrev pub GivesBy : {X Y : Type 0} →
+    (X → Y) → Result X EvalError → Result Y EvalError → Type 0
+GivesBy view (Ok x) expected = expected ≡ Ok (view x)
+GivesBy view (Err error) expected = Unless error (expected ≡ Err error)

@@ -1,17 +1,19 @@
 // Evaluating an expression.
-ghost use Rattle.std.specs.Prelude.{◌≡◌, ◌+◌, ◌≤◌, ◌<◌, true, OnOk, IfOk, length};
+ghost use Rattle.std.specs.Prelude.{◌≡◌, ◌+◌, ◌≤◌, ◌<◌, true, Ok, OnOk, IfOk, length};
+ghost use Rattle.col_model.specs.Chunked.{column_of, columns_of};
 ghost use Rattle.col_expr.specs.Tree.{node_count, Input, max_nodes};
-ghost use Rattle.col_expr.specs.Built.{is_built};
+ghost use Rattle.col_expr.specs.Numbers.{One, numbers_from};
+ghost use Rattle.col_expr.specs.Built.{is_built_tree};
 ghost use Rattle.col_expr.specs.Node.{node_tree};
 ghost use Rattle.col_expr.specs.Meaning.{step_count};
-ghost use Rattle.col_expr.specs.Refusal.{Gives, outcome};
+ghost use Rattle.col_expr.specs.Refusal.{Gives, GivesBy, outcome};
 ghost use Rattle.col_expr.specs.Found.{IsFound};
 
 use crate::error::EvalError;
 use crate::expr::Expr;
 use crate::inputs::Inputs;
 use crate::node::Node;
-use crate::operations::{at_node, binary_column, unary_column};
+use crate::operations::{binary_column, unary_column};
 use crate::steps::Steps;
 use col_series::Series;
 use std::alloc::Global;
@@ -25,8 +27,9 @@ pub fn evaluate<L: Ledger>(
     inputs: &Inputs,
     steps: &mut Steps<L>,
 ) -> Result<Series, EvalError>
-    ensures outcome { Gives result (outcome inputs.now expr.now) }
-    ensures steps { OnOk result (steps.new ≡ steps.old + step_count inputs.now expr.now) }
+    ensures outcome { GivesBy column_of result (outcome (columns_of inputs.now) expr.now) }
+    ensures steps { OnOk result
+        (steps.new ≡ steps.old + step_count (columns_of inputs.now) expr.now) }
 {
     let mut next = 0;
     evaluate_node(alloc, expr.root(), inputs, &mut next, steps)
@@ -41,11 +44,12 @@ fn evaluate_node<L: Ledger>(
     steps: &mut Steps<L>,
 ) -> Result<Series, EvalError>
     requires small { next.old + node_count (node_tree node.now) ≤ max_nodes }
-    requires built { is_built (node_tree node.now) ≡ true }
+    requires built { is_built_tree (node_tree node.now) ≡ true }
     ensures next { OnOk result (next.new ≡ next.old + node_count (node_tree node.now)) }
-    ensures found { IsFound inputs.now next.old (node_tree node.now) result }
+    ensures found { IsFound (columns_of inputs.now)
+        (numbers_from next.old (node_tree node.now)) (node_tree node.now) result }
     ensures steps { OnOk result
-        (steps.new ≡ steps.old + step_count inputs.now (node_tree node.now)) }
+        (steps.new ≡ steps.old + step_count (columns_of inputs.now) (node_tree node.now)) }
 {
     match node {
         Node::Input(index) => {
@@ -83,7 +87,7 @@ fn counted<L: Ledger>(
     steps: &mut Steps<L>,
 ) -> Result<Series, EvalError>
     ensures answer { result ≡ answer }
-    ensures steps { IfOk result (λ column. steps.new ≡ steps.old + length column.slots) }
+    ensures steps { IfOk result (λ answer. steps.new ≡ steps.old + length answer.column.slots) }
 {
     match answer {
         Ok(column) => {
@@ -95,14 +99,24 @@ fn counted<L: Ledger>(
 }
 
 fn input_column(alloc: Global, inputs: &Inputs, index: u32, node: u32) -> Result<Series, EvalError>
-    ensures found { IsFound inputs.now node (Input index) result }
+    ensures found { IsFound (columns_of inputs.now) (One node) (Input index) result }
 {
     match inputs.get(index) {
-        Some(column) => at_node(column.try_clone(alloc), node),
+        Some(column) => cloned(alloc, column),
         None => Err(EvalError::NoColumn {
             node,
             index,
             count: inputs.len(),
         }),
+    }
+}
+
+// A clone is refused for want of memory alone.
+fn cloned(alloc: Global, column: &Series) -> Result<Series, EvalError>
+    ensures column { Gives result (Ok column.now) }
+{
+    match column.try_clone(alloc) {
+        Ok(column) => Ok(column),
+        Err(_) => Err(EvalError::NoMemory),
     }
 }

@@ -18,7 +18,12 @@ ghost use Rattle.col_expr.specs.Tree.{
   is_within_limits,
 };
 ghost use Rattle.col_expr.specs.Node.{over, node_tree};
-ghost use Rattle.col_expr.specs.Built.{is_built, is_built_cast, is_built_operation, IsRefusedFor};
+ghost use Rattle.col_expr.specs.Built.{
+  is_built_tree,
+  is_built_cast,
+  is_built_operation,
+  IsRefusedFor,
+};
 
 use crate::error::{ExprCause, ExprRefused};
 use crate::node::{Node, UnaryOp};
@@ -66,8 +71,40 @@ impl Expr {
         }
     }
 
-    /// The operand in another type. A refusal hands the operand back and drops the type; too many
-    /// nodes are refused before too great a depth, and want of memory comes last.
+    /// An operation over an operand. A refusal hands the operand back and drops the operation; too
+    /// many nodes are refused before too great a depth, and want of memory comes last.
+    pub fn unary(alloc: Global, operation: UnaryOp, operand: Expr) -> Result<Expr, ExprRefused>
+        requires built { is_built_operation operation ≡ true }
+        ensures tree { IfOk result (λ e. e ≡ over operation operand) }
+        ensures fits { OnOk result (is_within_limits (over operation operand) ≡ true) }
+        ensures refused { IfErr result (λ r.
+            IsRefusedFor (node_count operand + 1) (depth_of operand + 1) r.cause) }
+        ensures back { IfErr result (λ r. (r.left ≡ operand) × (r.right ≡ None)) }
+    {
+        let nodes = operand.nodes + 1;
+        let depth = operand.depth + 1;
+        if let Some(cause) = refusal(nodes, depth) {
+            return Err(ExprRefused {
+                cause,
+                left: operand,
+                right: None,
+            });
+        }
+        match boxed(alloc, operand) {
+            Ok(root) => Ok(Expr {
+                nodes,
+                depth,
+                root: Node::Unary(operation, root),
+            }),
+            Err(operand) => Err(ExprRefused {
+                cause: ExprCause::NoMemory,
+                left: operand,
+                right: None,
+            }),
+        }
+    }
+
+    /// The operand in another type. Refused as `unary`.
     pub fn cast(
         alloc: Global,
         operand: Expr,
@@ -81,10 +118,10 @@ impl Expr {
             IsRefusedFor (node_count operand + 1) (depth_of operand + 1) r.cause) }
         ensures back { IfErr result (λ r. (r.left ≡ operand) × (r.right ≡ None)) }
     {
-        unary(alloc, UnaryOp::Cast(dtype, options), operand)
+        Expr::unary(alloc, UnaryOp::Cast(dtype, options), operand)
     }
 
-    /// The two operands joined. Refused as `cast`, with both operands handed back.
+    /// The two operands joined. Refused as `unary`, with both operands handed back.
     pub fn binary(alloc: Global, op: BinOp, left: Expr, right: Expr) -> Result<Expr, ExprRefused>
         ensures tree { IfOk result (λ e. e ≡ Binary op left right) }
         ensures fits { OnOk result (is_within_limits (Binary op left right) ≡ true) }
@@ -116,7 +153,7 @@ impl Expr {
         }
     }
 
-    /// The operand joined with an integer on its right. Refused as `cast`.
+    /// The operand joined with an integer on its right. Refused as `unary`.
     pub fn scalar_right(
         alloc: Global,
         operand: Expr,
@@ -129,10 +166,10 @@ impl Expr {
             IsRefusedFor (node_count operand + 1) (depth_of operand + 1) r.cause) }
         ensures back { IfErr result (λ r. (r.left ≡ operand) × (r.right ≡ None)) }
     {
-        unary(alloc, UnaryOp::ScalarRight(op, value), operand)
+        Expr::unary(alloc, UnaryOp::ScalarRight(op, value), operand)
     }
 
-    /// An integer joined with the operand on its right. Refused as `cast`.
+    /// An integer joined with the operand on its right. Refused as `unary`.
     pub fn scalar_left(
         alloc: Global,
         value: i128,
@@ -145,10 +182,10 @@ impl Expr {
             IsRefusedFor (node_count operand + 1) (depth_of operand + 1) r.cause) }
         ensures back { IfErr result (λ r. (r.left ≡ operand) × (r.right ≡ None)) }
     {
-        unary(alloc, UnaryOp::ScalarLeft(value, op), operand)
+        Expr::unary(alloc, UnaryOp::ScalarLeft(value, op), operand)
     }
 
-    /// The operand in another unit, wrapped where a value has no room there. Refused as `cast`.
+    /// The operand in another unit, wrapped where a value has no room there. Refused as `unary`.
     pub fn unit(alloc: Global, operand: Expr, unit: TimeUnit) -> Result<Expr, ExprRefused>
         ensures tree { IfOk result (λ e. e ≡ InUnit operand unit) }
         ensures fits { OnOk result (is_within_limits (InUnit operand unit) ≡ true) }
@@ -156,10 +193,10 @@ impl Expr {
             IsRefusedFor (node_count operand + 1) (depth_of operand + 1) r.cause) }
         ensures back { IfErr result (λ r. (r.left ≡ operand) × (r.right ≡ None)) }
     {
-        unary(alloc, UnaryOp::InUnit(unit), operand)
+        Expr::unary(alloc, UnaryOp::InUnit(unit), operand)
     }
 
-    /// The operand with each slot so many rows further down, up where negative. Refused as `cast`.
+    /// The operand with each slot so many rows further down, up where negative. Refused as `unary`.
     pub fn shift(alloc: Global, operand: Expr, periods: i64) -> Result<Expr, ExprRefused>
         ensures tree { IfOk result (λ e. e ≡ Shift operand periods) }
         ensures fits { OnOk result (is_within_limits (Shift operand periods) ≡ true) }
@@ -167,7 +204,7 @@ impl Expr {
             IsRefusedFor (node_count operand + 1) (depth_of operand + 1) r.cause) }
         ensures back { IfErr result (λ r. (r.left ≡ operand) × (r.right ≡ None)) }
     {
-        unary(alloc, UnaryOp::Shift(periods), operand)
+        Expr::unary(alloc, UnaryOp::Shift(periods), operand)
     }
 
     /// How many nodes there are, from 1 to 1,048,576.
@@ -187,7 +224,7 @@ impl Expr {
     /// Does nothing: its clauses tell what holds of each expression.
     pub fn known(&self)
         ensures fits { is_within_limits self.now ≡ true }
-        ensures built { is_built self.now ≡ true }
+        ensures built { is_built_tree self.now ≡ true }
     {
         let _ = &self.root;
     }
@@ -195,7 +232,7 @@ impl Expr {
     pub(crate) fn root(&self) -> &Node
         ensures tree { node_tree result.now ≡ self.now }
         ensures small { node_count self.now ≤ max_nodes }
-        ensures built { is_built self.now ≡ true }
+        ensures built { is_built_tree self.now ≡ true }
     {
         &self.root
     }
@@ -212,38 +249,6 @@ fn refusal(nodes: u32, depth: u32) -> Option<ExprCause>
         Some(ExprCause::ExprTooDeep { depth })
     } else {
         None
-    }
-}
-
-// An operation over an operand.
-fn unary(alloc: Global, operation: UnaryOp, operand: Expr) -> Result<Expr, ExprRefused>
-    requires built { is_built_operation operation ≡ true }
-    ensures tree { IfOk result (λ e. e ≡ over operation operand) }
-    ensures fits { OnOk result (is_within_limits (over operation operand) ≡ true) }
-    ensures refused { IfErr result (λ r.
-        IsRefusedFor (node_count operand + 1) (depth_of operand + 1) r.cause) }
-    ensures back { IfErr result (λ r. (r.left ≡ operand) × (r.right ≡ None)) }
-{
-    let nodes = operand.nodes + 1;
-    let depth = operand.depth + 1;
-    if let Some(cause) = refusal(nodes, depth) {
-        return Err(ExprRefused {
-            cause,
-            left: operand,
-            right: None,
-        });
-    }
-    match boxed(alloc, operand) {
-        Ok(root) => Ok(Expr {
-            nodes,
-            depth,
-            root: Node::Unary(operation, root),
-        }),
-        Err(operand) => Err(ExprRefused {
-            cause: ExprCause::NoMemory,
-            left: operand,
-            right: None,
-        }),
     }
 }
 

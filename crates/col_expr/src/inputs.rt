@@ -3,12 +3,13 @@ ghost use Rattle.std.specs.Prelude.{◌≡◌, ◌<◌, ◌-◌, ◌^◌, ◌++�
 ghost use Rattle.std.specs.Option.{option_copied};
 ghost use Rattle.std.specs.List.{All};
 ghost use Rattle.col_model.specs.Column.{IsValidColumn};
+ghost use Rattle.col_model.specs.Chunked.{columns_of};
 
 use col_series::Series;
 use std::alloc::Global;
 use std::marker::Model;
 
-/// A list of columns. A contract sees it as that list.
+/// A list of columns. A contract sees it as that list, each column with its chunks.
 #[derive(Drop)]
 pub struct Inputs {
     columns: Vec<Series>,
@@ -19,16 +20,17 @@ impl Model for Inputs {
     ghost use Rattle.std.specs.Coded.{codes};
     ghost use Rattle.std.specs.List.{All};
     ghost use Rattle.col_types.specs.contracts.data_type.DataType as data_type;
-    ghost use Rattle.col_model.specs.Column.{Column, IsValidColumn};
+    ghost use Rattle.col_model.specs.Column.{IsValidColumn};
+    ghost use Rattle.col_model.specs.Chunked.{Chunked, columns_of};
 
-    ghost Value = { List Column };
+    ghost Value = { List Chunked };
 
     ghost coded = { Prim.hlevel (codes, data_type.the_row.coded) };
 
     ghost view = { λ a. a.columns.items };
 
     ghost invariant = { λ a. (length a.columns.items < 2 ^ 32)
-        × All IsValidColumn a.columns.items };
+        × All IsValidColumn (columns_of a.columns.items) };
 }
 
 impl Inputs {
@@ -71,7 +73,7 @@ impl Inputs {
 
     /// Does nothing: its clause tells what holds of the columns.
     pub fn known(&self)
-        ensures valid { All IsValidColumn self.now }
+        ensures valid { All IsValidColumn (columns_of self.now) }
     {
         let _ = &self.columns;
     }

@@ -18,5 +18,9 @@ pub use error::{EvalError, ExprCause, ExprRefused};
 pub use evaluation::evaluate;
 pub use expr::Expr;
 pub use inputs::Inputs;
-pub use laws::{one_tree_fits, refusals_in_postfix_order};
+pub use laws::{
+    defined_up_to_the_first_refusal, one_tree_fits, refusals_in_postfix_order,
+    refusals_name_their_node,
+};
+pub use node::UnaryOp;
 pub use steps::Steps;

@@ -3,9 +3,10 @@ ghost use Rattle.std.specs.Prelude.{◌≡◌, true, Result};
 ghost use Rattle.col_types.specs.declared.error.PolarsError.{PolarsError};
 ghost use Rattle.col_types.specs.PolarsError as column_calls;
 ghost use Rattle.col_model.specs.Column.{Column};
+ghost use Rattle.col_model.specs.Chunked.{column_of};
 ghost use Rattle.col_model.specs.OperatorCalls.{binary_of};
 ghost use Rattle.col_expr.specs.Built.{is_built_cast, is_built_operation};
-ghost use Rattle.col_expr.specs.Refusal.{Gives};
+ghost use Rattle.col_expr.specs.Refusal.{GivesBy};
 ghost use Rattle.col_expr.specs.Found.{numbered, cast_at, unary_at};
 
 use crate::error::EvalError;
@@ -23,7 +24,8 @@ pub(crate) fn unary_column(
     node: u32,
 ) -> Result<Series, EvalError>
     requires built { is_built_operation operation.now ≡ true }
-    ensures answer { Gives result (unary_at node operation.now column.now) }
+    ensures answer { GivesBy column_of result
+        (unary_at node operation.now column.now.column) }
 {
     match operation {
         UnaryOp::Cast(target, options) => cast_column(alloc, column, target, *options, node),
@@ -42,7 +44,8 @@ pub(crate) fn binary_column(
     right: &Series,
     node: u32,
 ) -> Result<Series, EvalError>
-    ensures answer { Gives result (numbered node (binary_of op left.now right.now)) }
+    ensures answer { GivesBy column_of result
+        (numbered node (binary_of op left.now.column right.now.column)) }
 {
     left.known();
     right.known();
@@ -65,7 +68,8 @@ fn cast_column(
     node: u32,
 ) -> Result<Series, EvalError>
     requires built { is_built_cast target.now ≡ true }
-    ensures cast { Gives result (cast_at node column.now target.now options) }
+    ensures cast { GivesBy column_of result
+        (cast_at node column.now.column target.now options) }
 {
     if !target.is_expression_target() {
         return Err(EvalError::BadType { node });
@@ -73,20 +77,19 @@ fn cast_column(
     at_node(column.cast_with_options(alloc, target, options), node)
 }
 
-// A column's answer as that of a node. No call of one column is refused for lengths, and none for
-// the causes that are left.
-pub(crate) fn at_node(answer: PolarsResult<Series>, node: u32) -> Result<Series, EvalError>
+// A column's answer as that of a node. No call of one column is refused for lengths, and none of a
+// node for the causes of the last line.
+fn at_node(answer: PolarsResult<Series>, node: u32) -> Result<Series, EvalError>
     ensures answer { (expected : Result Column PolarsError) →
-        column_calls.Gives answer expected → Gives result (numbered node expected) }
+        column_calls.GivesBy column_of answer expected →
+        GivesBy column_of result (numbered node expected) }
 {
     match answer {
         Ok(column) => Ok(column),
-        Err(PolarsError::CastPair { .. }) => Err(EvalError::Unsupported { node }),
-        Err(PolarsError::Types { .. }) => Err(EvalError::Unsupported { node }),
-        Err(PolarsError::Scale { .. }) => Err(EvalError::Unsupported { node }),
+        Err(PolarsError::NoMemory | PolarsError::Lengths { .. }) => Err(EvalError::NoMemory),
         Err(PolarsError::BadType { .. }) => Err(EvalError::BadType { node }),
         Err(PolarsError::Scalar { .. }) => Err(EvalError::Scalar { node }),
         Err(PolarsError::Strict { row }) => Err(EvalError::Strict { node, row }),
-        Err(_) => Err(EvalError::NoMemory),
+        Err(_) => Err(EvalError::Unsupported { node }),
     }
 }
