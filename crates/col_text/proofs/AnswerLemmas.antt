@@ -5,7 +5,10 @@ use Rattle.std.specs.Fmt.{decimal, signed_decimal}
 use Rattle.std.proofs.lemmas.List.{drop-drop, drop_at}
 use Rattle.std.proofs.lemmas.List.Folds.{flat_map-map}
 use Rattle.std.proofs.lemmas.Bool.{false≢true, le-leb}
+use Rattle.col_types.specs.declared.data_type.DataType.{DataType}
+use Rattle.col_model.specs.Column.{is_built_type}
 use Rattle.col_model.specs.Value.{Value, integer_slot}
+use Rattle.col_series.proofs.TypeLemmas.{by_built_type}
 use Rattle.col_text.specs.Answer.{line_of, slot_text, tick_text}
 
 -- what stands behind digits that end at a place
@@ -25,21 +28,30 @@ pub text_of-negative : (z : ℤ) → int_le (pos 0) z ≡ false → 45 ∷ decim
 text_of-negative (pos n) e = absurd (false≢true (sym e ∙ le-leb 0 n (omega arith)))
 text_of-negative (negsuc n) e = refl
 
-tick_text-slot : (slot : Option ℤ) → tick_text slot ≡ slot_text (integer_slot slot)
-tick_text-slot None = refl
-tick_text-slot (Some x) = refl
+-- a slot of a type that is built has the text of its tick
+tick_text-slot : (dtype : DataType) (slot : Option ℤ) → is_built_type dtype ≡ true
+    → tick_text slot ≡ slot_text dtype (integer_slot slot)
+tick_text-slot dtype None built = refl
+tick_text-slot dtype (Some x) built =
+    by_built_type (λ dtype. tick_text (Some x) ≡ slot_text dtype (integer_slot (Some x)))
+    refl (λ unit zone. refl) (λ unit. refl) refl dtype built
 
-rows_by : (ticks : List (Option ℤ)) → flat_map (λ slot. line_of (tick_text slot)) ticks
-    ≡ flat_map (λ slot. line_of (slot_text slot)) (map integer_slot ticks)
-rows_by [] = refl
-rows_by (tick ∷ ticks) =
-    ap (λ text. line_of text ++ flat_map (λ slot. line_of (tick_text slot)) ticks) (tick_text-slot tick)
-    ∙ ap (λ rest. line_of (slot_text (integer_slot tick)) ++ rest) (rows_by ticks)
+rows_by : (dtype : DataType) (ticks : List (Option ℤ)) → is_built_type dtype ≡ true
+    → flat_map (λ slot. line_of (tick_text slot)) ticks
+    ≡ flat_map (λ slot. line_of (slot_text dtype slot)) (map integer_slot ticks)
+rows_by dtype [] built = refl
+rows_by dtype (tick ∷ ticks) built =
+    ap (λ text. line_of text ++ flat_map (λ slot. line_of (tick_text slot)) ticks)
+    (tick_text-slot dtype tick built)
+    ∙ ap (λ rest. line_of (slot_text dtype (integer_slot tick)) ++ rest) (rows_by dtype ticks built)
 
 -- the lines of ticks are those of the slots that they are
-pub rows_of-ticks : (ticks : List (Option ℤ)) (slots : List (Option Value)) → map integer_slot ticks ≡ slots
-    → flat_map (λ slot. line_of (tick_text slot)) ticks ≡ flat_map (λ slot. line_of (slot_text slot)) slots
-rows_of-ticks ticks slots e = rows_by ticks ∙ ap (flat_map (λ slot. line_of (slot_text slot))) e
+pub rows_of-ticks : (dtype : DataType) (ticks : List (Option ℤ)) (slots : List (Option Value))
+    → is_built_type dtype ≡ true → map integer_slot ticks ≡ slots
+    → flat_map (λ slot. line_of (tick_text slot)) ticks
+    ≡ flat_map (λ slot. line_of (slot_text dtype slot)) slots
+rows_of-ticks dtype ticks slots built e =
+    rows_by dtype ticks built ∙ ap (flat_map (λ slot. line_of (slot_text dtype slot))) e
 
 -- a text that is made of two parts, by what each part is
 pub parts_text : (text given header rows shown : List ℕ) → text ≡ given ++ rows → given ≡ header → rows ≡ shown

@@ -10,12 +10,15 @@ use Rattle.std.specs.Int.{w64}
 use Rattle.std.proofs.lemmas.Bool.{and_parts, false≢true, ltb-true, leb-true, le-leb}
 use Rattle.col_types.specs.declared.data_type.DataType.{DataType}
 use Rattle.col_model.specs.Arithmetic.{Interval, is_within, Signed, word_values}
-use Rattle.col_model.specs.Column.{Column, is_built_type, values_of}
+use Rattle.col_model.specs.Column.{is_built_type, values_of}
 use Rattle.col_series.proofs.TypeLemmas.{by_built_type}
-use Rattle.col_model.specs.ColumnCalls.{column_from, first_unfit, is_unfit}
+use Rattle.col_model.specs.Chunked.{Chunked}
+use Rattle.col_model.specs.ColumnCalls.{chunked_from, first_unfit, is_unfit}
 use Rattle.col_series.specs.Slots.{is_fit, ticks_column}
 use Rattle.col_series.proofs.ColumnLemmas.{unrefused_fit}
-use Rattle.col_text.specs.Slots.{column_with, ends_chunk, slot_of, slots_of, slots_by, slots_after_by, is_slot_within, fitting_slot, slot_in, slots_in_type, short_column, interval_of, IsFrontTick, with_front, with_first}
+use Rattle.col_text.specs.Slots.{column_with, ends_chunk, integer_slot_of, slots_by, slots_after_by, is_slot_within, fitting_slot, slot_in, slots_in_type, short_column, interval_of, IsFrontTick, with_front}
+use Rattle.col_text.specs.Parts.{with_first}
+use Rattle.col_text.proofs.ChunkLemmas.{slots_in-chunks_of, by_slots, slots_by-built}
 use Rattle.col_text.specs.declared.column.TickRange.{TickRange}
 use Rattle.col_text.specs.declared.column.TickRange.TheVariants.{Days, TimesOfDay, Words}
 use Rattle.col_text.specs.Numbers.{integer_of, tick_fit, tick_of}
@@ -101,10 +104,11 @@ within_end range false slot rest read e =
 
 -- reading slots of the interval is reading slots, where all lie in the interval
 pub slots_by-within : (range : Interval) (tokens : List (List ℕ))
-    → slots_by (slot_in range) tokens ≡ option_and_then (all_within range) (slots_of tokens)
+    → slots_by (slot_in range) tokens ≡ option_and_then (all_within range) (slots_by integer_slot_of tokens)
 slots_by-within range [] = refl
 slots_by-within range (token ∷ tokens) =
-    within_end range (ends_chunk token) (slot_of token) (slots_of tokens) _ (slots_by-within range tokens)
+    within_end range (ends_chunk token) (integer_slot_of token) (slots_by integer_slot_of tokens) _
+    (slots_by-within range tokens)
 
 -- where the type's values are the interval, a slot is one of the type where it lies there
 slot_fits : (dtype : DataType) (range : Interval) (slot : Option ℤ) → values_of dtype ≡ Some range
@@ -136,7 +140,7 @@ take_fit dtype (suc n) (slot ∷ slots) h =
 
 column_by : (name : List ℕ) (dtype : DataType) (slots : List (Option ℤ)) (short : Bool)
     → nat_lt (length slots) (2 ^ 32) ≡ short → list_all (is_fit dtype) slots ≡ true
-    → result_ok (column_from name dtype slots) ≡ short_column name dtype slots
+    → result_ok (chunked_from name dtype slots) ≡ short_column name dtype slots
 column_by name dtype slots true e h =
     rw (fit_unrefused dtype 0 (take (2 ^ 32) slots) (take_fit dtype (2 ^ 32) slots h), e) refl
 column_by name dtype slots false e h =
@@ -145,7 +149,7 @@ column_by name dtype slots false e h =
 unfit_by : (name : List ℕ) (dtype : DataType) (slots : List (Option ℤ)) (row : Option ℕ) (short : Bool)
     → first_unfit dtype slots ≡ row → nat_lt (length slots) (2 ^ 32) ≡ short
     → list_all (is_fit dtype) slots ≡ false
-    → result_ok (column_from name dtype slots) ≡ None
+    → result_ok (chunked_from name dtype slots) ≡ None
 unfit_by name dtype slots (Some row) short e f h = rw e refl
 unfit_by name dtype slots None false e f h = rw (e, f) refl
 unfit_by name dtype slots None true e f h =
@@ -153,7 +157,7 @@ unfit_by name dtype slots None true e f h =
 
 none_within : (name : List ℕ) (dtype : DataType) (range : Interval) (slots : List (Option ℤ)) (all : Bool)
     → values_of dtype ≡ Some range → list_all (is_slot_within range) slots ≡ all
-    → all_within range slots ≡ None → result_ok (column_from name dtype slots) ≡ None
+    → all_within range slots ≡ None → result_ok (chunked_from name dtype slots) ≡ None
 none_within name dtype range slots true e f h =
     let same : Some slots ≡ None = rw f at h in cc
 none_within name dtype range slots false e f h =
@@ -161,71 +165,101 @@ none_within name dtype range slots false e f h =
 
 none_by : (name : List ℕ) (dtype : DataType) (range : Interval) (slots : Option (List (Option ℤ)))
     → values_of dtype ≡ Some range → option_and_then (all_within range) slots ≡ None
-    → option_and_then (λ values. result_ok (column_from name dtype values)) slots ≡ None
+    → option_and_then (λ values. result_ok (chunked_from name dtype values)) slots ≡ None
 none_by name dtype range None e h = refl
 none_by name dtype range (Some slots) e h = none_within name dtype range slots _ e refl h
 
+-- the column of a line, by its integers
+column_slots : (name : List ℕ) (dtype : DataType) (tokens : List (List ℕ)) → is_built_type dtype ≡ true
+    → column_with name tokens dtype
+    ≡ option_and_then (λ slots. result_ok (chunked_from name dtype slots)) (slots_by integer_slot_of tokens)
+column_slots name dtype tokens built =
+    by_slots (λ slots. result_ok (chunked_from name dtype slots)) _ _
+    (slots_in-chunks_of dtype tokens ∙ slots_by-built dtype tokens built)
+
 -- a bad token, or a value outside the type, makes no column
-pub column_with-none : (name : List ℕ) (dtype : DataType) (range : Interval) (tokens : List (List ℕ))
-    → values_of dtype ≡ Some range → slots_by (slot_in range) tokens ≡ None
-    → column_with name tokens dtype ≡ None
-column_with-none name dtype range tokens e h =
-    none_by name dtype range (slots_of tokens) e (sym (slots_by-within range tokens) ∙ h)
+column_with-none : (name : List ℕ) (dtype : DataType) (range : Interval) (tokens : List (List ℕ))
+    → is_built_type dtype ≡ true → values_of dtype ≡ Some range
+    → slots_by (slot_in range) tokens ≡ None → column_with name tokens dtype ≡ None
+column_with-none name dtype range tokens built e h =
+    column_slots name dtype tokens built
+    ∙ none_by name dtype range (slots_by integer_slot_of tokens) e (sym (slots_by-within range tokens) ∙ h)
 
 -- what is read of a line, if all lie in the type
-pub record ReadsColumn (name : List ℕ) (dtype : DataType) (tokens : List (List ℕ)) (slots : List (Option ℤ)) : Type 0 where
+pub record ReadsColumn (name : List ℕ) (dtype : DataType) (tokens : List (List ℕ))
+    (slots : List (Option ℤ)) : Type 0 where
   pub fit : list_all (is_fit dtype) slots ≡ true
   pub column : column_with name tokens dtype ≡ short_column name dtype slots
 
-some_within : (name : List ℕ) (dtype : DataType) (range : Interval) (tokens : List (List ℕ)) (slots read : List (Option ℤ)) (all : Bool)
-    → values_of dtype ≡ Some range → slots_of tokens ≡ Some slots → list_all (is_slot_within range) slots ≡ all
-    → all_within range slots ≡ Some read → ReadsColumn name dtype tokens read
-some_within name dtype range tokens slots read true e is f h =
+some_within : (name : List ℕ) (dtype : DataType) (range : Interval) (tokens : List (List ℕ))
+    (slots read : List (Option ℤ)) (all : Bool) → is_built_type dtype ≡ true
+    → values_of dtype ≡ Some range → slots_by integer_slot_of tokens ≡ Some slots
+    → list_all (is_slot_within range) slots ≡ all → all_within range slots ≡ Some read
+    → ReadsColumn name dtype tokens read
+some_within name dtype range tokens slots read true built e is f h =
     let same : Some slots ≡ Some read = rw f at h in
     let one : slots ≡ read = cc in
-    let fit : list_all (is_fit dtype) read ≡ true = ap (list_all (is_fit dtype)) (sym one) ∙ sym (all_fit dtype range slots e) ∙ f in
+    let fit : list_all (is_fit dtype) read ≡ true =
+    ap (list_all (is_fit dtype)) (sym one) ∙ sym (all_fit dtype range slots e) ∙ f in
     record {
       fit = fit;
-      column = ap (option_and_then (λ values. result_ok (column_from name dtype values))) (is ∙ same)
+      column = column_slots name dtype tokens built
+          ∙ ap (option_and_then (λ values. result_ok (chunked_from name dtype values))) (is ∙ same)
           ∙ column_by name dtype read _ refl fit;
     }
-some_within name dtype range tokens slots read false e is f h =
+some_within name dtype range tokens slots read false built e is f h =
     let same : None ≡ Some read = rw f at h in cc
 
-some_by : (name : List ℕ) (dtype : DataType) (range : Interval) (tokens : List (List ℕ)) (slots : Option (List (Option ℤ))) (read : List (Option ℤ))
-    → values_of dtype ≡ Some range → slots_of tokens ≡ slots
+some_by : (name : List ℕ) (dtype : DataType) (range : Interval) (tokens : List (List ℕ))
+    (slots : Option (List (Option ℤ))) (read : List (Option ℤ)) → is_built_type dtype ≡ true
+    → values_of dtype ≡ Some range → slots_by integer_slot_of tokens ≡ slots
     → option_and_then (all_within range) slots ≡ Some read → ReadsColumn name dtype tokens read
-some_by name dtype range tokens None read e is h = cc
-some_by name dtype range tokens (Some slots) read e is h =
-    some_within name dtype range tokens slots read _ e is refl h
+some_by name dtype range tokens None read built e is h = cc
+some_by name dtype range tokens (Some slots) read built e is h =
+    some_within name dtype range tokens slots read _ built e is refl h
 
 -- the column of a line, from the slots that are read in the interval of its type
-pub column_with-some : (name : List ℕ) (dtype : DataType) (range : Interval) (tokens : List (List ℕ)) (read : List (Option ℤ))
-    → values_of dtype ≡ Some range → slots_by (slot_in range) tokens ≡ Some read
-    → ReadsColumn name dtype tokens read
-column_with-some name dtype range tokens read e h =
-    some_by name dtype range tokens _ read e refl (sym (slots_by-within range tokens) ∙ h)
+column_with-some : (name : List ℕ) (dtype : DataType) (range : Interval) (tokens : List (List ℕ))
+    (read : List (Option ℤ)) → is_built_type dtype ≡ true → values_of dtype ≡ Some range
+    → slots_by (slot_in range) tokens ≡ Some read → ReadsColumn name dtype tokens read
+column_with-some name dtype range tokens read built e h =
+    some_by name dtype range tokens _ read built e refl (sym (slots_by-within range tokens) ∙ h)
+
+-- columns of a type that is built have values
+built_values : (dtype : DataType) → is_built_type dtype ≡ true → is_some (values_of dtype) ≡ true
+built_values =
+    by_built_type (λ dtype. is_some (values_of dtype) ≡ true)
+    refl (λ unit name. refl) (λ unit. refl) refl
 
 type_none : (name : List ℕ) (dtype : DataType) (range : Option Interval) (tokens : List (List ℕ))
-    → values_of dtype ≡ range → is_some range ≡ true → option_and_then (λ r. slots_by (slot_in r) tokens) range ≡ None
+    → is_built_type dtype ≡ true → values_of dtype ≡ range → is_some range ≡ true
+    → option_and_then (λ r. slots_by (slot_in r) tokens) range ≡ None
     → column_with name tokens dtype ≡ None
-type_none name dtype None tokens e some h = cc
-type_none name dtype (Some range) tokens e some h = column_with-none name dtype range tokens e h
+type_none name dtype None tokens built e some h = cc
+type_none name dtype (Some range) tokens built e some h =
+    column_with-none name dtype range tokens built e h
 
 -- the same by the type
 pub column_with-typed_none : (name : List ℕ) (dtype : DataType) (tokens : List (List ℕ))
-    → is_some (values_of dtype) ≡ true → slots_in_type dtype tokens ≡ None → column_with name tokens dtype ≡ None
-column_with-typed_none name dtype tokens some h = type_none name dtype _ tokens refl some h
+    → is_built_type dtype ≡ true → slots_in_type dtype tokens ≡ None
+    → column_with name tokens dtype ≡ None
+column_with-typed_none name dtype tokens built h =
+    type_none name dtype _ tokens built refl (built_values dtype built) h
 
-type_some : (name : List ℕ) (dtype : DataType) (range : Option Interval) (tokens : List (List ℕ)) (read : List (Option ℤ))
-    → values_of dtype ≡ range → option_and_then (λ r. slots_by (slot_in r) tokens) range ≡ Some read
+type_some : (name : List ℕ) (dtype : DataType) (range : Option Interval) (tokens : List (List ℕ))
+    (read : List (Option ℤ)) → is_built_type dtype ≡ true → values_of dtype ≡ range
+    → option_and_then (λ r. slots_by (slot_in r) tokens) range ≡ Some read
     → ReadsColumn name dtype tokens read
-type_some name dtype None tokens read e h = cc
-type_some name dtype (Some range) tokens read e h = column_with-some name dtype range tokens read e h
+type_some name dtype None tokens read built e h = cc
+type_some name dtype (Some range) tokens read built e h =
+    column_with-some name dtype range tokens read built e h
 
-pub column_with-typed_some : (name : List ℕ) (dtype : DataType) (tokens : List (List ℕ)) (read : List (Option ℤ))
-    → slots_in_type dtype tokens ≡ Some read → ReadsColumn name dtype tokens read
-column_with-typed_some name dtype tokens read h = type_some name dtype _ tokens read refl h
+-- the column of a line, from the slots that are read in its type
+pub column_with-typed_some : (name : List ℕ) (dtype : DataType) (tokens : List (List ℕ))
+    (read : List (Option ℤ)) → is_built_type dtype ≡ true → slots_in_type dtype tokens ≡ Some read
+    → ReadsColumn name dtype tokens read
+column_with-typed_some name dtype tokens read built h =
+    type_some name dtype _ tokens read built refl h
 
 -- ---- one token
 
@@ -294,14 +328,10 @@ pub slot_in-none : (range : TickRange) (text : List ℕ) → bytes_eq text (code
 slot_in-none range text e h = rw e (no_integer range (integer_of text) h)
 
 -- a part of a line that can't be read makes a column that can't
-pub reads_error : {X Y : Type 0} (view : X → Y) (error : LineError) (part : Option Y) (column : Option Column)
-    → ReadsBy view (Err error) part → (part ≡ None → column ≡ None) → Reads {T = Column} (Err error) column
+pub reads_error : {X Y : Type 0} (view : X → Y) (error : LineError) (part : Option Y) (column : Option Chunked)
+    → ReadsBy view (Err error) part → (part ≡ None → column ≡ None) → Reads {T = Chunked} (Err error) column
 reads_error view Bad part column h f = f h
 reads_error view NoMemory part column h f = tt
-
--- columns of a type that is built have values
-pub built_values : (dtype : DataType) → is_built_type dtype ≡ true → is_some (values_of dtype) ≡ true
-built_values = by_built_type (λ dtype. is_some (values_of dtype) ≡ true) refl (λ unit name. refl) (λ unit. refl) refl
 
 -- ---- one step of the loop
 

@@ -18,9 +18,10 @@ ghost use Rattle.col_text.specs.Answer.{
   HasText,
   bad_line_text,
   column_text,
+  fault_text,
   header_text,
+  line_feed,
   line_of,
-  refusal_text,
   tick_text,
 };
 
@@ -32,7 +33,7 @@ use std::alloc::{AllocError, Global};
 
 fn push_header(text: &mut String, column: &Series) -> Result<(), AllocError>
     ensures text { OnOk result (string_bytes text.new
-        ≡ string_bytes text.old ++ header_text column.now) }
+        ≡ string_bytes text.old ++ header_text column.now.column) }
 {
     text.push_str(column.name().as_str())?;
     text.push_str(" ")?;
@@ -41,7 +42,7 @@ fn push_header(text: &mut String, column: &Series) -> Result<(), AllocError>
 }
 
 fn header(alloc: Global, column: &Series) -> Result<Vec<u8>, AllocError>
-    ensures text { IfOk result (λ v. v.items ≡ header_text column.now) }
+    ensures text { IfOk result (λ v. v.items ≡ header_text column.now.column) }
 {
     let mut text = String::new(alloc);
     push_header(&mut text, column)?;
@@ -55,10 +56,10 @@ const LONGEST_LINE: usize = 21;
 /// where it begins.
 fn write_tick(line: &mut [u8], tick: i64) -> usize
     requires size { length line.old ≡ LONGEST_LINE }
-    requires end { drop (LONGEST_LINE - 1) line.old ≡ 10 ∷ [] }
+    requires end { drop (LONGEST_LINE - 1) line.old ≡ line_feed ∷ [] }
     ensures start { result ≤ LONGEST_LINE }
     ensures written { drop result line.new ≡ line_of (signed_decimal tick) }
-    ensures end { drop (LONGEST_LINE - 1) line.new ≡ 10 ∷ [] }
+    ensures end { drop (LONGEST_LINE - 1) line.new ≡ line_feed ∷ [] }
 {
     let start = write_digits(tick.unsigned_abs(), line, LONGEST_LINE - 1);
     if tick >= 0 {
@@ -71,9 +72,9 @@ fn write_tick(line: &mut [u8], tick: i64) -> usize
 /// Adds the line of a slot, in one piece.
 fn push_row(text: &mut Vec<u8>, line: &mut [u8], slot: Option<i64>) -> Result<(), AllocError>
     requires size { length line.old ≡ LONGEST_LINE }
-    requires end { drop (LONGEST_LINE - 1) line.old ≡ 10 ∷ [] }
+    requires end { drop (LONGEST_LINE - 1) line.old ≡ line_feed ∷ [] }
     ensures text { OnOk result (text.new.items ≡ text.old.items ++ line_of (tick_text slot)) }
-    ensures end { drop (LONGEST_LINE - 1) line.new ≡ 10 ∷ [] }
+    ensures end { drop (LONGEST_LINE - 1) line.new ≡ line_feed ∷ [] }
 {
     match slot {
         Some(tick) => {
@@ -100,8 +101,9 @@ fn push_rows(text: &mut Vec<u8>, ticks: &[Option<i64>]) -> Result<(), AllocError
 /// The answer of a column: a line of its name, its type and the number of its rows, and then a line
 /// for each slot.
 pub fn answer_text(alloc: Global, column: &Series) -> Result<Vec<u8>, AllocError>
-    ensures text { IfOk result (λ v. v.items ≡ column_text column.now) }
+    ensures text { IfOk result (λ v. v.items ≡ column_text column.now.column) }
 {
+    column.known();
     let mut text = header(alloc, column)?;
     push_rows(&mut text, column.ticks())?;
     Ok(text)
@@ -109,7 +111,7 @@ pub fn answer_text(alloc: Global, column: &Series) -> Result<Vec<u8>, AllocError
 
 fn refusal_line(alloc: Global, fault: &EvalError) -> Result<String, AllocError>
     requires refusal { HasText fault.now }
-    ensures text { IfOk result (λ text. string_bytes text ≡ refusal_text fault.now) }
+    ensures text { IfOk result (λ text. string_bytes text ≡ fault_text fault.now) }
 {
     match fault {
         EvalError::NoColumn { node, index, count } => {
@@ -130,7 +132,7 @@ fn refusal_line(alloc: Global, fault: &EvalError) -> Result<String, AllocError>
 /// no line.
 pub fn fault_text(alloc: Global, fault: &EvalError) -> Result<Vec<u8>, AllocError>
     requires refusal { HasText fault.now }
-    ensures text { IfOk result (λ v. v.items ≡ refusal_text fault.now) }
+    ensures text { IfOk result (λ v. v.items ≡ fault_text fault.now) }
 {
     let text = refusal_line(alloc, fault)?;
     Ok(text.into_bytes())

@@ -32,7 +32,8 @@ use col_token::first_token;
 use col_types::{DataType, TimeUnit, ZoneNames};
 use std::alloc::Global;
 
-const LONGEST_NAME: usize = 64;
+/// A column's name has room for so many bytes.
+const MAX_NAME_BYTES: usize = 64;
 
 /// A column has fewer rows.
 const ROW_LIMIT: usize = 1 << 32;
@@ -40,7 +41,7 @@ const ROW_LIMIT: usize = 1 << 32;
 fn is_name(token: &[u8]) -> bool
     ensures name { result ≡ is_name token.now }
 {
-    !token.is_empty() && token.len() <= LONGEST_NAME && are_graphic(token)
+    !token.is_empty() && token.len() <= MAX_NAME_BYTES && are_graphic(token)
 }
 
 fn ends_chunk(token: &[u8]) -> bool
