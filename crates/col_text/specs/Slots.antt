@@ -63,7 +63,8 @@ chunks_of dtype tokens = all_read (all_read (slot_named dtype)) (chunks_in token
 abbrev pub slots_in : List (List (Option ℤ)) → List (Option ℤ)
 slots_in chunks = flat_map (λ chunk. chunk) chunks
 
--- the column of the chunks' slots, where each slot is a value of the type; it lies in one chunk so far
+-- the column of the chunks' slots, where each slot is a value of the type; it lies in one chunk so
+-- far
 abbrev pub column_with : List ℕ → List (List ℕ) → DataType → Option Chunked
 column_with name tokens dtype =
     option_and_then (λ chunks. result_ok (chunked_from name dtype (slots_in chunks)))
@@ -106,7 +107,8 @@ slot_in range text = option_and_then (fitting_slot range) (integer_slot_of text)
 abbrev pub slots_by : (List ℕ → Option (Option ℤ)) → List (List ℕ) → Option (List (Option ℤ))
 slots_by read [] = Some []
 slots_by read (token ∷ tokens) =
-    if ends_chunk token then slots_by read tokens else with_first (read token) (slots_by read tokens)
+    if ends_chunk token then slots_by read tokens
+    else with_first (read token) (slots_by read tokens)
 
 -- the slots of a line, none where a token is none or lies outside the range
 abbrev pub slots_of_line : TickRange → List ℕ → Option (List (Option ℤ))

@@ -52,8 +52,8 @@ fn header(alloc: Global, column: &Series) -> Result<Vec<u8>, AllocError>
 /// A sign, 19 digits and a line feed.
 const LONGEST_LINE: usize = 21;
 
-/// Writes the line of a tick at the end of the buffer, where its line feed stands already, and tells
-/// where it begins.
+/// Writes the line of a tick at the end of the buffer, where its line feed stands already, and
+/// tells where it begins.
 fn write_tick(line: &mut [u8], tick: i64) -> usize
     requires size { length line.old ≡ LONGEST_LINE }
     requires end { drop (LONGEST_LINE - 1) line.old ≡ line_feed ∷ [] }

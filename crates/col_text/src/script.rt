@@ -125,7 +125,8 @@ impl Progress {
     }
 }
 
-/// The script that the text is, or its first bad line. The text has at most 16,777,216 bytes.
+/// The script that the text is, or its first bad line. The text has at most
+/// `col_token::MAX_TEXT` bytes.
 pub fn read_script(alloc: Global, text: &[u8]) -> Result<Script, ReadError>
     requires short { length text.now ≤ longest_text }
     ensures script { Reads result (script_of text.now) }

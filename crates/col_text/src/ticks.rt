@@ -82,8 +82,8 @@ fn ends_token(rest: &[u8]) -> bool
     }
 }
 
-/// The integer of few digits that is a line's first token, and what follows it. `None` says only that
-/// the token has to be read another way.
+/// The integer of few digits that is a line's first token, and what follows it. `None` says only
+/// that the token has to be read another way.
 #[inline(always)]
 pub(crate) fn front_tick(line: &[u8]) -> Option<(i64, &[u8])>
     ensures read { IfSome result (λ cut. IsFrontTick line.now cut.0 cut.1.now) }

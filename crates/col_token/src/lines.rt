@@ -8,6 +8,9 @@ ghost use Rattle.col_token.specs.Places.{longest_text};
 
 use memchr::memchr;
 
+/// The most bytes of a text whose places and lines are told.
+pub const MAX_TEXT: usize = 16_777_216;
+
 fn first_line_feed(text: &[u8]) -> Option<usize>
     ensures place { result ≡ position is_line_feed text.now }
 {
@@ -16,7 +19,7 @@ fn first_line_feed(text: &[u8]) -> Option<usize>
 
 /// The first line of a text that is not empty, without its line feed, and what follows that.
 pub fn first_line(text: &[u8]) -> (&[u8], &[u8])
-    requires { 0 < length text.now }
+    requires filled { 0 < length text.now }
     ensures cut { lines_of text.now ≡ result.0.now ∷ lines_of result.1.now }
     ensures rest { result.1.now ≡ drop (length result.0.now + 1) text.now }
     ensures within { length result.0.now ≤ length text.now }
@@ -39,9 +42,9 @@ pub fn content(line: &[u8]) -> &[u8]
     }
 }
 
-/// The number of lines of a text of at most 16_777_216 bytes.
+/// The number of lines of a text of at most `MAX_TEXT` bytes.
 pub fn line_count(text: &[u8]) -> u32
-    requires { length text.now ≤ longest_text }
+    requires short { length text.now ≤ longest_text }
     ensures count { result ≡ length (lines_of text.now) }
 {
     let mut count = 0;
