@@ -14,3 +14,5 @@ pub mod ColumnCalls
 pub mod OperatorCalls
 pub mod Laws
 pub mod UnitLaws
+pub mod TableLaws
+pub mod IntervalLaws
