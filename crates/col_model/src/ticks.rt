@@ -1,5 +1,5 @@
 // How ticks of one unit become ticks of another.
-ghost use Rattle.std.specs.Prelude.{◌≡◌, ◌<◌, ℤ, pos, Some};
+ghost use Rattle.std.specs.Prelude.{◌≡◌, ◌<◌, ℤ, pos, int_div, Some};
 ghost use Rattle.std.specs.Int.{w32, int_div_euclid};
 ghost use Rattle.col_types.specs.TimeUnit.{ticks_per_day};
 ghost use Rattle.col_model.specs.Arithmetic.{Signed, word_values, fitting_value, wrapped_value};
@@ -12,6 +12,9 @@ ghost use Rattle.col_model.specs.UnitChange.{wrapped_datetime_by, wrapped_durati
 ghost use Rattle.col_model.specs.CastTable.{day_of, time_of};
 
 use col_types::{CastOptions, NANOS_PER_DAY, TimeUnit};
+
+const MICROS_PER_DAY: i64 = NANOS_PER_DAY / 1_000;
+const MILLIS_PER_DAY: i64 = NANOS_PER_DAY / 1_000_000;
 
 /// How one unit stands to another.
 #[derive(Clone, Copy, Debug, PartialEq, Eq)]
@@ -45,7 +48,10 @@ fn in_finer_unit(tick: i64, factor: u32) -> Option<i64>
     tick.checked_mul(i64::from(factor))
 }
 
-/// The quotient rounded down. The processor divides by a number that the code names faster.
+// A division by a number that the code names is a multiplication, so the factors between units are
+// named.
+
+/// The quotient rounded down.
 #[inline(always)]
 fn floor_quotient(tick: i64, factor: u32) -> i64
     requires factor { 0 < factor }
@@ -56,6 +62,20 @@ fn floor_quotient(tick: i64, factor: u32) -> i64
         1_000_000 => tick.div_euclid(1_000_000),
         1_000_000_000 => tick.div_euclid(1_000_000_000),
         _ => tick.div_euclid(i64::from(factor)),
+    }
+}
+
+/// The quotient rounded towards zero.
+#[inline(always)]
+fn trunc_quotient(tick: i64, factor: u32) -> i64
+    requires factor { 0 < factor }
+    ensures value { result ≡ int_div tick (pos factor) }
+{
+    match factor {
+        1_000 => tick / 1_000,
+        1_000_000 => tick / 1_000_000,
+        1_000_000_000 => tick / 1_000_000_000,
+        _ => tick / i64::from(factor),
     }
 }
 
@@ -86,7 +106,7 @@ pub fn duration_by(tick: i64, change: UnitChange) -> Option<i64>
     match change {
         UnitChange::Finer(factor) => in_finer_unit(tick, factor),
         UnitChange::Same => Some(tick),
-        UnitChange::Coarser(factor) => Some(tick / i64::from(factor)),
+        UnitChange::Coarser(factor) => Some(trunc_quotient(tick, factor)),
     }
 }
 
@@ -147,9 +167,9 @@ fn day_number(tick: i64, unit: TimeUnit) -> i64
     ensures value { result ≡ int_div_euclid tick (pos (ticks_per_day unit)) }
 {
     match unit {
-        TimeUnit::Nanoseconds => tick.div_euclid(86_400_000_000_000),
-        TimeUnit::Microseconds => tick.div_euclid(86_400_000_000),
-        TimeUnit::Milliseconds => tick.div_euclid(86_400_000),
+        TimeUnit::Nanoseconds => tick.div_euclid(NANOS_PER_DAY),
+        TimeUnit::Microseconds => tick.div_euclid(MICROS_PER_DAY),
+        TimeUnit::Milliseconds => tick.div_euclid(MILLIS_PER_DAY),
     }
 }
 

@@ -1,5 +1,5 @@
 -- The texts of answers.
-use Rattle.std.specs.Prelude.{ℕ, ℤ, pos, ◌++◌, List, [], ◌∷◌, Option, Some, None, length, codes}
+use Rattle.std.specs.Prelude.{ℕ, zero, ℤ, pos, ◌++◌, List, [], ◌∷◌, Option, Some, None, length, codes}
 use Rattle.std.specs.List.{flat_map}
 use Rattle.std.specs.Fmt.{decimal, signed_decimal}
 use Rattle.col_types.specs.declared.data_type.DataType.{DataType, Boolean}
@@ -19,7 +19,7 @@ line_of text = text ++ (line_feed ∷ [])
 
 -- the word of a truth value
 abbrev pub truth_text : ℤ → List ℕ
-truth_text (pos 0) = codes "false"
+truth_text (pos zero) = codes "false"
 truth_text _ = codes "true"
 
 -- the text of an integer in a column of the type: a truth value has its word

@@ -1,5 +1,5 @@
 -- The line of a column.
-use Rattle.std.specs.Prelude.{◌≡◌, ◌<◌, ℕ, ◌^◌, Bool, ◌&&◌, not, List, [], ◌∷◌, ◌++◌, filter, ℤ, pos, true, Option, Some, None, option_and_then, option_map, nat_lt, nat_le, nat_eq, length, if◌then◌else◌, codes}
+use Rattle.std.specs.Prelude.{◌≡◌, ◌<◌, ℕ, ◌^◌, Bool, ◌&&◌, List, [], ◌∷◌, ◌++◌, filter, ℤ, pos, true, false, Option, Some, None, option_and_then, option_map, nat_lt, nat_le, length, if◌then◌else◌, codes}
 use Rattle.std.specs.Int.{w32, w64}
 use Rattle.std.specs.Char.{is_ascii_graphic}
 use Rattle.std.specs.List.{list_all, flat_map, slice_split}
@@ -49,7 +49,8 @@ ends_chunk text = bytes_eq text (codes "|")
 
 -- whether a chunk has a token
 abbrev pub is_filled : {T : Type 0} → List T → Bool
-is_filled chunk = not (nat_eq (length chunk) 0)
+is_filled [] = false
+is_filled (token ∷ tokens) = true
 
 -- the tokens of each chunk; a chunk without a token is dropped
 abbrev pub chunks_in : List (List ℕ) → List (List (List ℕ))
