@@ -15,4 +15,5 @@ pub mod OperatorCalls
 pub mod Laws
 pub mod UnitLaws
 pub mod TableLaws
+pub mod KnownWords
 pub mod IntervalLaws

@@ -3,7 +3,7 @@ ghost use Rattle.std.specs.Prelude.{ℕ, ℤ, ◌<◌};
 ghost use Rattle.col_model.specs.Laws.{RoundsDown, RoundsTowardsZero};
 ghost use Rattle.col_types.specs.declared.data_type.DataType.{Duration};
 ghost use Rattle.col_model.specs.Laws.{KnownDatetimes, KnownDurations, KnownCasts, KnownJoins};
-ghost use Rattle.col_model.specs.Arithmetic.{WordType, wrapped_value};
+ghost use Rattle.col_model.specs.Arithmetic.{WordType, word_values, wrapped_value, rescaled_value};
 ghost use Rattle.col_model.specs.IntervalLaws.{DivisionsRoundDown, TruncatesDivisions};
 ghost use Rattle.col_model.specs.IntervalLaws.{DividesByPositive, IsKeptOf, IntervalsHold};
 ghost use Rattle.col_model.specs.UnitLaws.{ComesBack, IsOneCast, is_no_coarser, is_no_finer};
@@ -16,6 +16,7 @@ ghost use Rattle.col_model.specs.CastTable.{resolved_target};
 ghost use Rattle.col_model.specs.TableLaws.{StoresValues, SameTypeFirst, SettlesOnce};
 ghost use Rattle.col_model.specs.TableLaws.{known_words, known_targets};
 ghost use Rattle.col_model.specs.TableLaws.{KnownScalars, KnownUnitChanges};
+ghost use Rattle.col_model.specs.KnownWords.{KnownEnds, known_ranges, known_rescalings};
 
 /// The quotient by a positive number, rounded down, is the greatest whose multiple isn't above.
 pub fn floor_rounds_down()
@@ -88,6 +89,17 @@ pub fn known_scalars()
 /// Changes of a column's unit, by hand.
 pub fn known_unit_changes()
     ensures values { KnownUnitChanges }
+{}
+
+/// Words at their ends, by hand.
+pub fn known_ends()
+    ensures ranges { GivesEach word_values known_ranges }
+    ensures ends { KnownEnds }
+{}
+
+/// Decimals at other scales, by hand.
+pub fn known_rescalings()
+    ensures values { GivesEach (λ row. rescaled_value row.1 row.2 row.3 row.0) known_rescalings }
 {}
 
 /// The quotient rounded down is the greatest integer whose multiple by the divisor doesn't pass

@@ -1,4 +1,4 @@
--- Values of the definitions that were worked out by hand, so that a wrong definition does not check.
+-- Values of the definitions, worked out by hand, so that a wrong definition does not check.
 use Rattle.std.specs.Prelude.{◌≡◌, Bool, true, false, ℕ, List, [], ◌∷◌, map, codes}
 use Rattle.std.specs.Prelude.{Option, Some, None, Result, Ok, Err}
 use Rattle.col_types.specs.declared.time_unit.TimeUnit.{TimeUnit}

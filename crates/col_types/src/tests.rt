@@ -2,66 +2,117 @@
 use super::*;
 use std::alloc::Global;
 use std::fmt;
+use std::process::Abort;
 use std::test::Fail;
+
+// The value prints so.
+fn prints<T: fmt::Display + Drop>(rt: &impl Abort, alloc: Global, value: T, wanted: &str) {
+    match printed(alloc, value) {
+        Ok(text) => assert_eq!(rt; text.as_str(), wanted),
+        Err(_) => panic!(rt; "no memory at {wanted}"),
+    }
+}
 
 fn printed<T: fmt::Display + Drop>(alloc: Global, value: T) -> Result<String, Fail> {
     Ok(format!(in alloc; "{value}")?)
 }
 
 #[test]
-fn refusals_print_their_names(rt: HostRuntime) -> Result<(), Fail> {
-    let (left, right) = (Kind::Date, Kind::Duration(TimeUnit::Milliseconds));
-    let op = OpName::Add;
-    for (given, wanted) in [
-        (PolarsError::Lengths { left: 2, right: 3 }, "Lengths"),
-        (PolarsError::Types { op, left, right }, "Types"),
-        (
-            PolarsError::CastPair {
-                from: left,
-                to: right,
-            },
-            "CastPair",
-        ),
-        (PolarsError::BadType { dtype: left }, "BadType"),
-        (PolarsError::Scale { scale: 39 }, "Scale"),
-        (PolarsError::Scalar { value: -1 }, "Scalar"),
-        (PolarsError::Strict { row: 0 }, "Strict"),
-        (
-            PolarsError::Precision {
-                precision: 2,
-                digits: 3,
-            },
-            "Precision",
-        ),
-        (PolarsError::GatherZero, "GatherZero"),
-        (PolarsError::Zone, "Zone"),
-        (PolarsError::Calendar { row: 0 }, "Calendar"),
-        (PolarsError::Fit { row: 0 }, "Fit"),
-        (PolarsError::Format, "Format"),
-        (PolarsError::OutOfBounds { index: 3, len: 3 }, "OutOfBounds"),
-        (PolarsError::SchemaMismatch, "SchemaMismatch"),
-        (PolarsError::TooLong { len: 4_294_967_296 }, "TooLong"),
-        (PolarsError::FalseMark, "FalseMark"),
-        (PolarsError::NoMemory, "NoMemory"),
-    ] {
-        let text = printed(rt.alloc(), given)?;
-        assert_eq!(rt; text.as_str(), wanted, "at {wanted}");
-    }
-    Ok(())
+fn refusals_of_types_print_their_names(rt: HostRuntime) {
+    let (op, left, right) = (
+        OpName::Add,
+        Kind::Date,
+        Kind::Duration(TimeUnit::Milliseconds),
+    );
+    prints(
+        &rt,
+        rt.alloc(),
+        PolarsError::Lengths { left: 2, right: 3 },
+        "Lengths",
+    );
+    prints(
+        &rt,
+        rt.alloc(),
+        PolarsError::Types { op, left, right },
+        "Types",
+    );
+    prints(
+        &rt,
+        rt.alloc(),
+        PolarsError::CastPair {
+            from: left,
+            to: right,
+        },
+        "CastPair",
+    );
+    prints(
+        &rt,
+        rt.alloc(),
+        PolarsError::BadType { dtype: left },
+        "BadType",
+    );
+    prints(&rt, rt.alloc(), PolarsError::Scale { scale: 39 }, "Scale");
+    prints(&rt, rt.alloc(), PolarsError::Scalar { value: -1 }, "Scalar");
 }
 
 #[test]
-fn units_have_names(rt: HostRuntime) -> Result<(), Fail> {
+fn refusals_of_rows_print_their_names(rt: HostRuntime) {
+    prints(&rt, rt.alloc(), PolarsError::Strict { row: 0 }, "Strict");
+    prints(
+        &rt,
+        rt.alloc(),
+        PolarsError::Precision {
+            precision: 2,
+            digits: 3,
+        },
+        "Precision",
+    );
+    prints(
+        &rt,
+        rt.alloc(),
+        PolarsError::Calendar { row: 0 },
+        "Calendar",
+    );
+    prints(&rt, rt.alloc(), PolarsError::Fit { row: 0 }, "Fit");
+    prints(
+        &rt,
+        rt.alloc(),
+        PolarsError::OutOfBounds { index: 3, len: 3 },
+        "OutOfBounds",
+    );
+    prints(
+        &rt,
+        rt.alloc(),
+        PolarsError::TooLong { len: 4_294_967_296 },
+        "TooLong",
+    );
+}
+
+#[test]
+fn other_refusals_print_their_names(rt: HostRuntime) {
+    prints(&rt, rt.alloc(), PolarsError::GatherZero, "GatherZero");
+    prints(&rt, rt.alloc(), PolarsError::Zone, "Zone");
+    prints(&rt, rt.alloc(), PolarsError::Format, "Format");
+    prints(
+        &rt,
+        rt.alloc(),
+        PolarsError::SchemaMismatch,
+        "SchemaMismatch",
+    );
+    prints(&rt, rt.alloc(), PolarsError::FalseMark, "FalseMark");
+    prints(&rt, rt.alloc(), PolarsError::NoMemory, "NoMemory");
+}
+
+#[test]
+fn units_have_names(rt: HostRuntime) {
     let unit = TimeUnit::Microseconds;
-    let text = printed(rt.alloc(), unit)?;
     let back: TimeUnit = (&unit.to_arrow()).into();
-    assert_eq!(rt; text.as_str(), "\u{3bc}s");
+    prints(&rt, rt.alloc(), unit, "\u{3bc}s");
     assert_eq!(rt; unit.to_ascii(), "us");
     assert_eq!(rt; unit.nanos_per_tick(), 1_000);
     assert_eq!(rt; back, unit);
     assert!(rt; unit < TimeUnit::Milliseconds);
     assert_eq!(rt; get_time_units(unit, TimeUnit::Nanoseconds), unit);
-    Ok(())
 }
 
 #[test]
@@ -79,35 +130,40 @@ fn small_words_have_defaults(rt: HostRuntime) -> Result<(), Fail> {
 }
 
 #[test]
-fn types_are_copied_under_their_nesting(rt: HostRuntime) -> Result<(), Fail> {
-    let alloc = rt.alloc();
-    let dates = DataType::List(Box::new(alloc, DataType::Date)?);
-    let times = DataType::List(Box::new(alloc, DataType::Time)?);
-    let days = DataType::List(Box::new(alloc, DataType::Int32)?);
-    assert!(rt; dates.is_nested() && dates.is_column_type() && !dates.is_built());
-    assert!(rt; dates.leaf_dtype().is_temporal() && !dates.is_expression_target());
-    assert!(rt; dates.try_clone(alloc)? == dates && dates != times);
-    assert!(rt; dates.cast_leaf(alloc, &DataType::Time)?.is_same(&times));
-    assert!(rt; dates.to_physical(alloc)?.is_same(&days));
-    let time = DataType::Date.cast_leaf(alloc, &DataType::Time)?;
+fn types_keep_their_nesting(rt: HostRuntime) -> Result<(), Fail> {
+    let dates = DataType::List(Box::new(rt.alloc(), DataType::Date)?);
+    let copy = dates.try_clone(rt.alloc())?;
+    assert!(rt; copy == dates && copy.is_same(&dates) && copy.is_nested());
+    assert!(rt; copy.is_column_type() && !copy.is_built() && !copy.is_expression_target());
+    assert!(rt; copy.leaf_dtype().is_temporal());
+    Ok(())
+}
+
+#[test]
+fn leaves_are_changed(rt: HostRuntime) -> Result<(), Fail> {
+    let time = DataType::Date.cast_leaf(rt.alloc(), &DataType::Time)?;
     assert!(rt; time.is_same(&DataType::Time) && time.is_built() && !time.is_integer());
+    let stored = time.to_physical(rt.alloc())?;
+    assert!(rt; stored.is_same(&DataType::Int64) && stored.is_expression_type());
     Ok(())
 }
 
 #[test]
 fn supertypes_are_refused_with_both_types(rt: HostRuntime) -> Result<(), Fail> {
-    let alloc = rt.alloc();
-    let wide = flat_supertype(&DataType::Int8, &DataType::UInt8);
-    assert_eq!(rt; wide, Some(DataType::Int16));
-    let dates = DataType::List(Box::new(alloc, DataType::Date)?);
-    assert!(rt; try_get_supertype(alloc, &dates, &dates)? == dates);
-    let refusal = PolarsError::Types {
-        op: OpName::Supertype,
-        left: Kind::Date,
-        right: Kind::Time,
-    };
-    let answer = try_get_supertype(alloc, &DataType::Date, &DataType::Time);
-    assert_eq!(rt; answer, Err(refusal));
+    let wide = try_get_supertype(rt.alloc(), &DataType::Int8, &DataType::UInt8)?;
+    assert!(rt; wide.is_same(&DataType::Int16));
+    assert!(rt; flat_supertype(&DataType::Date, &DataType::Time).is_none());
+    match try_get_supertype(rt.alloc(), &DataType::Date, &DataType::Time) {
+        Ok(_) => assert!(rt; false),
+        Err(refusal) => assert_eq!(rt;
+            refusal,
+            PolarsError::Types {
+                op: OpName::Supertype,
+                left: Kind::Date,
+                right: Kind::Time,
+            }
+        ),
+    }
     Ok(())
 }
 
@@ -118,8 +174,7 @@ fn texts_name_zones(rt: HostRuntime) -> Result<(), Fail> {
     let east = TimeZone::opt_try_new(Some("+13:00"), &names)?.expect(&rt, "an offset");
     assert_eq!(rt; east.as_str(), "Etc/GMT-13");
     let berlin = parse_time_zone("Europe/Berlin", &names)?;
-    let text = printed(rt.alloc(), berlin)?;
-    assert_eq!(rt; text.as_str(), "Europe/Berlin");
+    prints(&rt, rt.alloc(), berlin, "Europe/Berlin");
     assert!(rt; names.contains("Europe/Berlin"));
     assert!(rt; TimeZone::validate_time_zone("Etc/GMT+12", &names).is_ok());
     assert_eq!(rt;
