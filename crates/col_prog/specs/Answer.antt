@@ -55,7 +55,7 @@ reply_to None bytes = record { text = []; status = BadWords }
 
 -- whether the words tell a command that reads a script
 abbrev pub read_by : List (List ℕ) → Bool
-read_by words = option_map_or reads_script false (command_of words)
+read_by words = option_map_or reads_script (command_of words) false
 
 -- the text of the program itself that the words ask for
 abbrev pub asked_text : List (List ℕ) → Option (List ℕ)
