@@ -1,8 +1,8 @@
 //! The peer of the benchmark: plain Rust that reads a script with columns of days, moments and lengths of
-//! time, evaluates an expression of columns, casts and sums, and writes the answer.
+//! time, evaluates an expression of columns, casts and sums, and writes the answer. Values are plain
+//! 64-bit integers beside a list of truth values, and each step takes one pass over a column.
 
-use std::fmt::Write as _;
-use std::io::{self, Read, Write};
+use std::io::{self, BufWriter, Read, Write};
 use std::process::ExitCode;
 use std::rc::Rc;
 
@@ -22,11 +22,12 @@ enum Type {
     Duration(Unit),
 }
 
-#[derive(Clone)]
-struct Column {
-    name: Rc<str>,
+/// A value counts where its row is valid.
+struct Column<'a> {
+    name: &'a str,
     dtype: Type,
-    slots: Rc<Vec<Option<i64>>>,
+    values: Vec<i64>,
+    valid: Vec<bool>,
 }
 
 enum Node {
@@ -98,52 +99,63 @@ impl Type {
         }
     }
 
-    fn holds(self, value: i128) -> bool {
-        match self {
-            Type::Date => i32::try_from(value).is_ok(),
-            _ => i64::try_from(value).is_ok(),
-        }
+    fn holds(self, value: i64) -> bool {
+        self != Type::Date || i32::try_from(value).is_ok()
     }
 }
 
-impl Column {
-    fn parse<'a>(mut tokens: impl Iterator<Item = &'a str>) -> Option<Column> {
+impl<'a> Column<'a> {
+    fn new(name: &'a str, dtype: Type, rows: usize) -> Column<'a> {
+        Column {
+            name,
+            dtype,
+            values: Vec::with_capacity(rows),
+            valid: Vec::with_capacity(rows),
+        }
+    }
+
+    fn push(&mut self, slot: Option<i64>) {
+        self.values.push(slot.unwrap_or(0));
+        self.valid.push(slot.is_some());
+    }
+
+    fn slots(&self) -> impl Iterator<Item = Option<i64>> + '_ {
+        self.values.iter().zip(&self.valid).map(|(value, valid)| valid.then_some(*value))
+    }
+
+    fn parse(mut tokens: impl Iterator<Item = &'a str>) -> Option<Column<'a>> {
         let name = tokens.next()?;
         if name.len() > 64 || !name.bytes().all(|b| b.is_ascii_graphic()) {
             return None;
         }
         let dtype = Type::parse(tokens.next()?)?;
-        let mut slots = Vec::new();
+        let mut column = Column::new(name, dtype, 0);
         for token in tokens {
             match token {
                 "|" => {}
-                "null" => slots.push(None),
+                "null" => column.push(None),
                 _ => {
-                    let value: i128 = token.parse().ok()?;
+                    let value = token.parse().ok()?;
                     if !dtype.holds(value) {
                         return None;
                     }
-                    slots.push(Some(value as i64));
+                    column.push(Some(value));
                 }
             }
         }
-        Some(Column {
-            name: name.into(),
-            dtype,
-            slots: Rc::new(slots),
-        })
+        Some(column)
     }
 
-    fn map(&self, dtype: Type, change: impl Fn(i64) -> Option<i64>) -> Column {
-        Column {
-            name: self.name.clone(),
-            dtype,
-            slots: Rc::new(self.slots.iter().map(|slot| slot.and_then(&change)).collect()),
+    fn map(&self, dtype: Type, change: impl Fn(i64) -> Option<i64>) -> Column<'a> {
+        let mut column = Column::new(self.name, dtype, self.values.len());
+        for slot in self.slots() {
+            column.push(slot.and_then(&change));
         }
+        column
     }
 
     /// None where there is no such cast and a slot is valid.
-    fn cast(&self, target: Type) -> Option<Column> {
+    fn cast(&self, target: Type) -> Option<Column<'a>> {
         match (self.dtype, target) {
             (Type::Datetime(from), Type::Datetime(to)) => Some(self.map(target, from.change(to, true))),
             (Type::Duration(from), Type::Duration(to)) => Some(self.map(target, from.change(to, false))),
@@ -152,41 +164,39 @@ impl Column {
                 let date = |tick: i64| i32::try_from(tick.div_euclid(day)).ok().map(i64::from);
                 Some(self.map(target, date))
             }
-            (Type::Date, Type::Date) => Some(self.clone()),
-            _ if self.slots.iter().all(|slot| slot.is_none()) => Some(self.map(target, Some)),
+            (Type::Date, Type::Date) => Some(self.map(target, Some)),
+            _ if self.valid.iter().all(|valid| !valid) => Some(self.map(target, Some)),
             _ => None,
         }
     }
 
     /// A moment and a length of time; None for other types and for lengths that differ.
-    fn add(&self, other: &Column) -> Option<Column> {
+    fn add(&self, other: &Column) -> Option<Column<'a>> {
         let (Type::Datetime(u), Type::Duration(v)) = (self.dtype, other.dtype) else {
             return None;
         };
-        if self.slots.len() != other.slots.len() {
+        if self.values.len() != other.values.len() {
             return None;
         }
         let unit = u.coarser(v);
         let (moment, length) = (u.change(unit, true), v.change(unit, false));
-        let slots = self.slots.iter().zip(other.slots.iter());
-        let sum = slots.map(|(x, y)| Some(moment((*x)?)?.wrapping_add(length((*y)?)?)));
-        Some(Column {
-            name: self.name.clone(),
-            dtype: Type::Datetime(unit),
-            slots: Rc::new(sum.collect()),
-        })
+        let sum = |x: Option<i64>, y: Option<i64>| Some(moment(x?)?.wrapping_add(length(y?)?));
+        let mut column = Column::new(self.name, Type::Datetime(unit), self.values.len());
+        for (x, y) in self.slots().zip(other.slots()) {
+            column.push(sum(x, y));
+        }
+        Some(column)
     }
 
-    fn text(&self) -> String {
-        let mut text = String::new();
-        writeln!(text, "{} {} {}", self.name, self.dtype.text(), self.slots.len()).unwrap();
-        for slot in self.slots.iter() {
+    fn write(&self, text: &mut impl Write) -> io::Result<()> {
+        writeln!(text, "{} {} {}", self.name, self.dtype.text(), self.values.len())?;
+        for slot in self.slots() {
             match slot {
-                Some(tick) => writeln!(text, "{tick}").unwrap(),
-                None => text.push_str("null\n"),
+                Some(tick) => writeln!(text, "{tick}")?,
+                None => text.write_all(b"null\n")?,
             }
         }
-        text
+        Ok(())
     }
 }
 
@@ -203,8 +213,8 @@ fn nodes<'a>(tokens: impl Iterator<Item = &'a str>) -> Option<Vec<Node>> {
 }
 
 /// The columns and the expression, or the number of the bad line.
-fn read(script: &[u8]) -> Result<(Vec<Column>, Vec<Node>), usize> {
-    let mut columns: Vec<Column> = Vec::new();
+fn read(script: &[u8]) -> Result<(Vec<Rc<Column<'_>>>, Vec<Node>), usize> {
+    let mut columns = Vec::new();
     let mut expression = None;
     let mut number = 0;
     for line in script.split_inclusive(|b| *b == b'\n') {
@@ -216,7 +226,7 @@ fn read(script: &[u8]) -> Result<(Vec<Column>, Vec<Node>), usize> {
         match tokens.next() {
             None => {}
             Some("col") if expression.is_none() => {
-                columns.push(Column::parse(tokens).ok_or(number)?);
+                columns.push(Rc::new(Column::parse(tokens).ok_or(number)?));
             }
             Some("expr") if expression.is_none() => {
                 expression = Some(nodes(tokens).ok_or(number)?);
@@ -231,15 +241,15 @@ fn read(script: &[u8]) -> Result<(Vec<Column>, Vec<Node>), usize> {
 }
 
 /// The column of the expression; the scripts of the benchmark refuse none.
-fn evaluate(columns: &[Column], expression: &[Node]) -> Option<Column> {
-    let mut stack: Vec<Column> = Vec::new();
+fn evaluate<'a>(columns: &[Rc<Column<'a>>], expression: &[Node]) -> Option<Rc<Column<'a>>> {
+    let mut stack: Vec<Rc<Column<'a>>> = Vec::new();
     for node in expression {
         let column = match node {
-            Node::Input(index) => columns.get(*index)?.clone(),
-            Node::Cast(target) => stack.pop()?.cast(*target)?,
+            Node::Input(index) => Rc::clone(columns.get(*index)?),
+            Node::Cast(target) => Rc::new(stack.pop()?.cast(*target)?),
             Node::Add => {
                 let right = stack.pop()?;
-                stack.pop()?.add(&right)?
+                Rc::new(stack.pop()?.add(&right)?)
             }
         };
         stack.push(column);
@@ -247,16 +257,26 @@ fn evaluate(columns: &[Column], expression: &[Node]) -> Option<Column> {
     stack.pop()
 }
 
-fn main() -> ExitCode {
+fn main() -> io::Result<ExitCode> {
     let mut script = Vec::new();
-    io::stdin().read_to_end(&mut script).unwrap();
-    let (text, code) = match read(&script) {
+    io::stdin().read_to_end(&mut script)?;
+    let mut text = BufWriter::new(io::stdout().lock());
+    let code = match read(&script) {
         Ok((columns, expression)) => match evaluate(&columns, &expression) {
-            Some(answer) => (answer.text(), 0),
-            None => ("refused\n".to_string(), 1),
+            Some(answer) => {
+                answer.write(&mut text)?;
+                0
+            }
+            None => {
+                writeln!(text, "refused")?;
+                1
+            }
         },
-        Err(line) => (format!("bad line {line}\n"), 2),
+        Err(line) => {
+            writeln!(text, "bad line {line}")?;
+            2
+        }
     };
-    io::stdout().write_all(text.as_bytes()).unwrap();
-    ExitCode::from(code)
+    text.flush()?;
+    Ok(ExitCode::from(code))
 }

@@ -6,4 +6,4 @@ here=$(cd "$(dirname "$0")" && pwd)
 . "$here/prepare.sh"
 prepare tizlumed peer "${1:-}"
 python3 "$here/make_script.py" "$here/build"
-python3 "$here/measure.py" "$program" "$here/build/peer" "$here/build" "${2:-9}"
+python3 "$here/measure.py" "$program" "$here/build/peer" "$here/build" "${2:-7}"

@@ -1,6 +1,6 @@
 // How ticks of one unit become ticks of another.
-ghost use Rattle.std.specs.Prelude.{◌≡◌, ℤ, pos, Some};
-ghost use Rattle.std.specs.Int.{w32};
+ghost use Rattle.std.specs.Prelude.{◌≡◌, ◌<◌, ℤ, pos, int_div, Some};
+ghost use Rattle.std.specs.Int.{w32, int_div_euclid};
 ghost use Rattle.col_types.specs.TimeUnit.{ticks_per_day};
 ghost use Rattle.col_model.specs.Arithmetic.{Signed, word_values, fitting_value, wrapped_value};
 ghost use Rattle.col_model.specs.Formula.{X, Y, value_of};
@@ -12,6 +12,9 @@ ghost use Rattle.col_model.specs.UnitChange.{wrapped_datetime_by, wrapped_durati
 ghost use Rattle.col_model.specs.CastTable.{day_of, time_of};
 
 use col_types::{CastOptions, NANOS_PER_DAY, TimeUnit};
+
+const MICROS_PER_DAY: i64 = NANOS_PER_DAY / 1_000;
+const MILLIS_PER_DAY: i64 = NANOS_PER_DAY / 1_000_000;
 
 /// How one unit stands to another.
 #[derive(Clone, Copy, Debug, PartialEq, Eq)]
@@ -45,8 +48,40 @@ fn in_finer_unit(tick: i64, factor: u32) -> Option<i64>
     tick.checked_mul(i64::from(factor))
 }
 
+// A division by a number that the code names is a multiplication, so the factors between units are
+// named.
+
+/// The quotient rounded down.
+#[inline(always)]
+fn floor_quotient(tick: i64, factor: u32) -> i64
+    requires factor { 0 < factor }
+    ensures value { result ≡ int_div_euclid tick (pos factor) }
+{
+    match factor {
+        1_000 => tick.div_euclid(1_000),
+        1_000_000 => tick.div_euclid(1_000_000),
+        1_000_000_000 => tick.div_euclid(1_000_000_000),
+        _ => tick.div_euclid(i64::from(factor)),
+    }
+}
+
+/// The quotient rounded towards zero.
+#[inline(always)]
+fn trunc_quotient(tick: i64, factor: u32) -> i64
+    requires factor { 0 < factor }
+    ensures value { result ≡ int_div tick (pos factor) }
+{
+    match factor {
+        1_000 => tick / 1_000,
+        1_000_000 => tick / 1_000_000,
+        1_000_000_000 => tick / 1_000_000_000,
+        _ => tick / i64::from(factor),
+    }
+}
+
 /// A moment after a change of unit: rounded down in a coarser one, none where a finer one leaves
 /// 64 bits.
+#[inline(always)]
 pub fn datetime_by(tick: i64, change: UnitChange) -> Option<i64>
     requires proper { IsProper change }
     ensures value { result ≡ value_of (datetime_by change X) tick tick }
@@ -56,7 +91,7 @@ pub fn datetime_by(tick: i64, change: UnitChange) -> Option<i64>
     match change {
         UnitChange::Finer(factor) => in_finer_unit(tick, factor),
         UnitChange::Same => Some(tick),
-        UnitChange::Coarser(factor) => Some(tick.div_euclid(i64::from(factor))),
+        UnitChange::Coarser(factor) => Some(floor_quotient(tick, factor)),
     }
 }
 
@@ -71,7 +106,7 @@ pub fn duration_by(tick: i64, change: UnitChange) -> Option<i64>
     match change {
         UnitChange::Finer(factor) => in_finer_unit(tick, factor),
         UnitChange::Same => Some(tick),
-        UnitChange::Coarser(factor) => Some(tick / i64::from(factor)),
+        UnitChange::Coarser(factor) => Some(trunc_quotient(tick, factor)),
     }
 }
 
@@ -126,12 +161,25 @@ pub fn wrapped_day(day: i64) -> i64
     i64::from(low.cast_signed())
 }
 
+/// The number of a moment's day.
+#[inline(always)]
+fn day_number(tick: i64, unit: TimeUnit) -> i64
+    ensures value { result ≡ int_div_euclid tick (pos (ticks_per_day unit)) }
+{
+    match unit {
+        TimeUnit::Nanoseconds => tick.div_euclid(NANOS_PER_DAY),
+        TimeUnit::Microseconds => tick.div_euclid(MICROS_PER_DAY),
+        TimeUnit::Milliseconds => tick.div_euclid(MILLIS_PER_DAY),
+    }
+}
+
 /// The day of a moment. Where the word of dates doesn't hold it: none, or, where the cast may
 /// overflow, wrapped.
+#[inline(always)]
 pub fn day_of(tick: i64, unit: TimeUnit, options: CastOptions) -> Option<i64>
     ensures value { result ≡ value_of (day_of options unit) tick tick }
 {
-    let day = tick.div_euclid(ticks_per_day(unit));
+    let day = day_number(tick, unit);
     match options {
         CastOptions::Strict | CastOptions::NonStrict => fitting_day(day),
         CastOptions::Overflowing => Some(wrapped_day(day)),

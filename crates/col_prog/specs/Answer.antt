@@ -1,12 +1,13 @@
 -- What the program answers to its words and to the bytes of its script.
-use Rattle.std.specs.Prelude.{◌≡◌, ◌≤◌, ℕ, List, [], Option, Some, None, Result, Ok, Err, length}
-use Rattle.std.specs.Option.{IsSomeAnd}
+use Rattle.std.specs.Prelude.{◌≡◌, ◌≤◌, ℕ, Bool, true, false, List, [], Option, Some, None, option_and_then, Result, Ok, Err, length}
+use Rattle.std.specs.Option.{IsSomeAnd, option_map_or}
+use Rattle.col_model.specs.Chunked.{columns_of}
 use Rattle.col_model.specs.Column.{Column}
 use Rattle.col_expr.specs.declared.error.EvalError.{EvalError}
 use Rattle.col_expr.specs.Refusal.{outcome}
 use Rattle.col_text.specs.declared.script.Script.{Script}
 use Rattle.col_text.specs.Script.{script_of}
-use Rattle.col_text.specs.Answer.{column_text, refusal_text, bad_line_text}
+use Rattle.col_text.specs.Answer.{column_text, fault_text, bad_line_text}
 use Rattle.col_prog.specs.declared.words.Command.{Command}
 use Rattle.col_prog.specs.declared.words.Command.TheVariants.{Eval, Help, Version}
 use Rattle.col_prog.specs.declared.status.Status.{Status}
@@ -22,19 +23,43 @@ pub record Reply : Type 0 where
 -- the text of the column, or of the first refused node
 abbrev pub reply_to_outcome : Result Column EvalError → Reply
 reply_to_outcome (Ok column) = record { text = column_text column; status = Done }
-reply_to_outcome (Err refusal) = record { text = refusal_text refusal; status = Refused }
+reply_to_outcome (Err refusal) = record { text = fault_text refusal; status = Refused }
 
 -- the answer to a script, or the text of its first bad line
 abbrev pub reply_to_script : Result Script ℕ → Reply
-reply_to_script (Ok script) = reply_to_outcome (outcome script.inputs script.expr)
+reply_to_script (Ok script) = reply_to_outcome (outcome (columns_of script.inputs) script.expr)
 reply_to_script (Err line) = record { text = bad_line_text line; status = BadScript }
+
+-- whether the command reads a script
+abbrev pub reads_script : Command → Bool
+reads_script Eval = true
+reads_script Help = false
+reads_script Version = false
+
+-- the text that the command says of the program itself, which needs no script
+abbrev pub own_text : Command → Option (List ℕ)
+own_text Eval = None
+own_text Help = Some help_text
+own_text Version = Some version_text
+
+-- a text of the program itself, which is the whole answer
+abbrev pub own_reply : List ℕ → Reply
+own_reply text = record { text = text; status = Done }
 
 -- the answer to a command and the bytes of its source; words that tell no command have no text
 abbrev pub reply_to : Option Command → List ℕ → Reply
 reply_to (Some Eval) bytes = reply_to_script (script_of bytes)
-reply_to (Some Help) bytes = record { text = help_text; status = Done }
-reply_to (Some Version) bytes = record { text = version_text; status = Done }
+reply_to (Some Help) bytes = own_reply help_text
+reply_to (Some Version) bytes = own_reply version_text
 reply_to None bytes = record { text = []; status = BadWords }
+
+-- whether the words tell a command that reads a script
+abbrev pub read_by : List (List ℕ) → Bool
+read_by words = option_map_or reads_script (command_of words) false
+
+-- the text of the program itself that the words ask for
+abbrev pub asked_text : List (List ℕ) → Option (List ℕ)
+asked_text words = option_and_then own_text (command_of words)
 
 -- the answer to the words and the bytes
 unfoldable pub answer_of : List (List ℕ) → List ℕ → Reply
@@ -43,7 +68,8 @@ answer_of words bytes = reply_to (command_of words) bytes
 -- where the room is limited, the bytes are known, and the answer to them fits the room
 abbrev pub HoldsAnswer : List (List ℕ) → Option ℕ → Option (List ℕ) → Type 0
 HoldsAnswer words None bytes = Unit {0}
-HoldsAnswer words (Some room) bytes = IsSomeAnd bytes (λ script. length (answer_of words script).text ≤ room)
+HoldsAnswer words (Some room) bytes =
+    IsSomeAnd bytes (λ script. length (answer_of words script).text ≤ room)
 
 -- a status that tells that the whole text was written
 abbrev pub IsAnswer : Status → Type 0

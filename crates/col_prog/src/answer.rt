@@ -1,12 +1,15 @@
 // The answer to a command, before it is written.
-ghost use Rattle.std.specs.Prelude.{◌≡◌, ◌≤◌, ◌+◌, length, IfOk, OnOk, OnErr, IfSome, Some, Err};
+ghost use Rattle.std.specs.Prelude.{◌≡◌, ◌≤◌, ◌+◌, true, false, length, IfOk, OnOk, OnErr};
+ghost use Rattle.std.specs.Prelude.{IfSome, Some, Err};
 ghost use Rattle.std.specs.Io.KnownBytes.{IsAtEnd};
+ghost use Rattle.col_model.specs.Chunked.{columns_of};
 ghost use Rattle.col_text.specs.Script.{script_of};
 ghost use Rattle.col_expr.specs.Refusal.{outcome};
 ghost use Rattle.col_prog.specs.Device.{Rose};
 ghost use Rattle.col_prog.specs.Reading.{Took, TookUpTo};
 ghost use Rattle.col_prog.specs.HelpText.{help_text, version_text};
 ghost use Rattle.col_prog.specs.Answer.{reply_to, reply_to_script, reply_to_outcome, IsAnswer};
+ghost use Rattle.col_prog.specs.Answer.{reads_script, own_text};
 
 use crate::device::Source;
 use crate::reading::{MAX_SCRIPT, ReadError, read_all};
@@ -43,7 +46,8 @@ pub(crate) struct Answer {
     pub status: Status,
 }
 
-/// The answer to a command. Only `eval` reads the source, and then to its end.
+/// The answer to a command. A command that says a text of its own reads nothing, and each other one
+/// reads the source to its end.
 pub(crate) fn answer_to<S: Source, L: Ledger>(
     alloc: Global,
     command: Command,
@@ -55,12 +59,10 @@ pub(crate) fn answer_to<S: Source, L: Ledger>(
     ensures status { IfOk result (λ a. IfSome (S.left source.old) (λ bytes.
         a.status ≡ (reply_to (Some command) bytes).status)) }
     ensures answer { IfOk result (λ a. IsAnswer a.status) }
-    ensures help { command ≡ Command.Help → IfOk result (λ a. a.text.items ≡ help_text) }
-    ensures help_read { command ≡ Command.Help → source.new ≡ source.old }
-    ensures version { command ≡ Command.Version → IfOk result (λ a. a.text.items ≡ version_text) }
-    ensures version_read { command ≡ Command.Version → source.new ≡ source.old }
-    ensures end { command ≡ Command.Eval → OnOk result (IsAtEnd (S.left source.new)) }
-    ensures within { command ≡ Command.Eval → OnOk result (IfSome (S.left source.old) (λ bytes.
+    ensures own_text { IfSome (own_text command) (λ text. IfOk result (λ a. a.text.items ≡ text)) }
+    ensures unread { reads_script command ≡ false → source.new ≡ source.old }
+    ensures end { reads_script command ≡ true → OnOk result (IsAtEnd (S.left source.new)) }
+    ensures within { reads_script command ≡ true → OnOk result (IfSome (S.left source.old) (λ bytes.
         length bytes ≤ MAX_SCRIPT)) }
     ensures front { OnErr result (TookUpTo (S.left source.old) (S.left source.new) (MAX_SCRIPT + 1)) }
     ensures too_long { result ≡ Err ReadError.TooLong →
@@ -72,10 +74,10 @@ pub(crate) fn answer_to<S: Source, L: Ledger>(
     match command {
         Command::Eval => {
             let bytes = read_all(alloc, source)?;
-            Ok(answer_to_script(alloc, &bytes, steps)?)
+            Ok(script_answer(alloc, bytes, steps)?)
         }
         Command::Help => Ok(help(alloc)?),
-        Command::Version => Ok(told(alloc, VERSION)?),
+        Command::Version => Ok(own_answer(alloc, VERSION)?),
     }
 }
 
@@ -83,10 +85,11 @@ fn help(alloc: Global) -> Result<Answer, AllocError>
     ensures text { IfOk result (λ a. a.text.items ≡ help_text) }
     ensures status { IfOk result (λ a. a.status ≡ Status.Done) }
 {
-    told(alloc, HELP)
+    own_answer(alloc, HELP)
 }
 
-fn told(alloc: Global, text: &str) -> Result<Answer, AllocError>
+/// A text of the program itself.
+fn own_answer(alloc: Global, text: &str) -> Result<Answer, AllocError>
     ensures text { IfOk result (λ a. a.text.items ≡ text.now) }
     ensures status { IfOk result (λ a. a.status ≡ Status.Done) }
 {
@@ -97,18 +100,20 @@ fn told(alloc: Global, text: &str) -> Result<Answer, AllocError>
 }
 
 /// The answer to a script, or its first bad line.
-fn answer_to_script<L: Ledger>(
+fn script_answer<L: Ledger>(
     alloc: Global,
-    bytes: &[u8],
+    bytes: Vec<u8>,
     steps: &mut Steps<L>,
 ) -> Result<Answer, AllocError>
-    requires short { length bytes.now ≤ MAX_SCRIPT }
-    ensures text { IfOk result (λ a. a.text.items ≡ (reply_to_script (script_of bytes.now)).text) }
-    ensures status { IfOk result (λ a. a.status ≡ (reply_to_script (script_of bytes.now)).status) }
+    requires short { length bytes.items ≤ MAX_SCRIPT }
+    ensures text { IfOk result (λ a. a.text.items ≡ (reply_to_script (script_of bytes.items)).text) }
+    ensures status { IfOk result (λ a. a.status ≡ (reply_to_script (script_of bytes.items)).status) }
     ensures answer { IfOk result (λ a. IsAnswer a.status) }
 {
-    match read_script(alloc, bytes) {
-        Ok(script) => answer_to_expression(alloc, &script, steps),
+    let script = read_script(alloc, bytes.as_slice());
+    drop(bytes);
+    match script {
+        Ok(script) => expression_answer(alloc, script, steps),
         Err(col_text::ReadError::BadLine { line }) => Ok(Answer {
             text: bad_line_text(alloc, line)?,
             status: Status::BadScript,
@@ -118,18 +123,20 @@ fn answer_to_script<L: Ledger>(
 }
 
 /// The column of the script's expression, or its first refused node.
-fn answer_to_expression<L: Ledger>(
+fn expression_answer<L: Ledger>(
     alloc: Global,
-    script: &Script,
+    script: Script,
     steps: &mut Steps<L>,
 ) -> Result<Answer, AllocError>
     ensures text { IfOk result (λ a.
-        a.text.items ≡ (reply_to_outcome (outcome script.now.inputs script.now.expr)).text) }
+        a.text.items ≡ (reply_to_outcome (outcome (columns_of script.inputs) script.expr)).text) }
     ensures status { IfOk result (λ a.
-        a.status ≡ (reply_to_outcome (outcome script.now.inputs script.now.expr)).status) }
+        a.status ≡ (reply_to_outcome (outcome (columns_of script.inputs) script.expr)).status) }
     ensures answer { IfOk result (λ a. IsAnswer a.status) }
 {
-    match evaluate(alloc, &script.expr, &script.inputs, steps) {
+    let outcome = evaluate(alloc, &script.expr, &script.inputs, steps);
+    drop(script);
+    match outcome {
         Ok(column) => Ok(Answer {
             text: answer_text(alloc, &column)?,
             status: Status::Done,

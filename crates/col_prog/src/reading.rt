@@ -6,10 +6,11 @@ ghost use Rattle.col_prog.specs.Reading.{Took, TookUpTo};
 ghost use Rattle.col_prog.specs.declared.reading.ReadError.TheVariants.{NoMemory};
 
 use crate::device::{Failed, Source};
+use col_token::MAX_TEXT;
 use std::alloc::{AllocError, Global};
 
 /// No script has more bytes.
-pub const MAX_SCRIPT: usize = 16_777_216;
+pub const MAX_SCRIPT: usize = MAX_TEXT;
 
 const PIECE: usize = 65_536;
 
@@ -56,7 +57,7 @@ pub fn read_all<S: Source>(alloc: Global, source: &mut S) -> Result<Vec<u8>, Rea
 
 // Reads the source to its end by the piece.
 fn read_by<S: Source>(alloc: Global, source: &mut S, piece: &mut [u8]) -> Result<Vec<u8>, ReadError>
-    requires { 0 < length piece.old }
+    requires room { 0 < length piece.old }
     ensures bytes { IfOk result (λ v. Consumes (S.left source.old) (S.left source.new) v.items) }
     ensures within { IfOk result (λ v. length v.items ≤ MAX_SCRIPT) }
     ensures end { OnOk result (IsAtEnd (S.left source.new)) }
@@ -89,14 +90,14 @@ fn read_by<S: Source>(alloc: Global, source: &mut S, piece: &mut [u8]) -> Result
 }
 
 fn zeros(alloc: Global, count: usize) -> Result<Vec<u8>, AllocError>
-    ensures { IfOk result (λ v. length v.items ≡ count) }
+    ensures length { IfOk result (λ v. length v.items ≡ count) }
 {
     vec![in alloc; 0u8; count]
 }
 
 // One turn: it takes a byte at least, or the end is reached.
 fn read_turn<S: Source>(source: &mut S, piece: &mut [u8]) -> Result<usize, Failed>
-    requires { 0 < length piece.old }
+    requires room { 0 < length piece.old }
     ensures progress { IfOk result (λ count. (0 < count) ⊎ IsAtEnd (S.left source.new)) }
     ensures end { IfOk result (λ count. count ≡ 0 → IsAtEnd (S.left source.new)) }
     ensures bound { IfOk result (λ count. count ≤ length piece.new) }
@@ -110,7 +111,7 @@ fn read_turn<S: Source>(source: &mut S, piece: &mut [u8]) -> Result<usize, Faile
 
 // Growing by a quarter keeps the memory near the script's size, and the copies linear.
 fn append(bytes: &mut Vec<u8>, more: &[u8]) -> Result<(), AllocError>
-    ensures { bytes.new.items ≡
+    ensures bytes { bytes.new.items ≡
         (if is_ok result then bytes.old.items ++ more.now else bytes.old.items) }
 {
     if bytes.capacity() - bytes.len() < more.len() {

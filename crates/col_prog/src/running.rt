@@ -7,17 +7,16 @@ ghost use Rattle.std.specs.Prelude.{
   length,
   IfOk,
   IfSome,
-  Some,
+  true,
+  false,
   None,
-  Ok,
-  Err,
 };
 ghost use Rattle.std.specs.Io.KnownBytes.{IsAtEnd, Appends};
 ghost use Rattle.col_prog.specs.Device.{Rose};
 ghost use Rattle.col_prog.specs.Reading.{Took, TookUpTo, AppendsFront};
 ghost use Rattle.col_prog.specs.Words.{command_of};
-ghost use Rattle.col_prog.specs.HelpText.{help_text, version_text};
-ghost use Rattle.col_prog.specs.Answer.{answer_of, IsAnswer, IsUnwritten, IsStatus, HoldsAnswer};
+ghost use Rattle.col_prog.specs.Answer.{answer_of, asked_text, read_by, IsAnswer, IsUnwritten};
+ghost use Rattle.col_prog.specs.Answer.{IsStatus, HoldsAnswer};
 
 use crate::answer::answer_to;
 use crate::device::{Failed, Sink, Source};
@@ -48,31 +47,28 @@ pub fn run<S: Source, K: Sink, L: Ledger>(
     ensures bad_words { (result ≡ Status.BadWords) ↔ (command_of words.now ≡ None) }
     ensures bad_words_read { result ≡ Status.BadWords → source.new ≡ source.old }
 
-    // The texts that the program says of itself need no script, and nothing of it is read.
-    ensures help { command_of words.now ≡ Some Command.Help → IsAnswer result →
-        Appends (K.contents sink.old) (K.contents sink.new) help_text }
-    ensures help_read { command_of words.now ≡ Some Command.Help → source.new ≡ source.old }
-    ensures version { command_of words.now ≡ Some Command.Version → IsAnswer result →
-        Appends (K.contents sink.old) (K.contents sink.new) version_text }
-    ensures version_read { command_of words.now ≡ Some Command.Version → source.new ≡ source.old }
+    // A command that says a text of its own needs no script, and nothing of it is read.
+    ensures own_text { IfSome (asked_text words.now) (λ text. IsAnswer result →
+        Appends (K.contents sink.old) (K.contents sink.new) text) }
+    ensures unread { read_by words.now ≡ false → source.new ≡ source.old }
 
     // The answer: the source was read to its end, and exactly the answer to its bytes was written.
     ensures status { IsAnswer result → IfSome (S.left source.old) (λ bytes.
         result ≡ (answer_of words.now bytes).status) }
     ensures text { IsAnswer result → IfSome (S.left source.old) (λ bytes.
         Appends (K.contents sink.old) (K.contents sink.new) (answer_of words.now bytes).text) }
-    ensures end { command_of words.now ≡ Some Command.Eval → IsAnswer result →
+    ensures end { read_by words.now ≡ true → IsAnswer result →
         IsAtEnd (S.left source.new) }
-    ensures within { command_of words.now ≡ Some Command.Eval → IsAnswer result →
+    ensures within { read_by words.now ≡ true → IsAnswer result →
         IfSome (S.left source.old) (λ bytes. length bytes ≤ MAX_SCRIPT) }
 
     // The sink failed: a front of the answer was written.
     ensures write_fault { result ≡ Status.WriteFault → Rose (K.faults sink.old) (K.faults sink.new) }
     ensures write_front { result ≡ Status.WriteFault → IfSome (S.left source.old) (λ bytes.
         AppendsFront (K.contents sink.old) (K.contents sink.new) (answer_of words.now bytes).text) }
-    ensures write_end { command_of words.now ≡ Some Command.Eval → result ≡ Status.WriteFault →
+    ensures write_end { read_by words.now ≡ true → result ≡ Status.WriteFault →
         IsAtEnd (S.left source.new) }
-    ensures write_within { command_of words.now ≡ Some Command.Eval → result ≡ Status.WriteFault →
+    ensures write_within { read_by words.now ≡ true → result ≡ Status.WriteFault →
         IfSome (S.left source.old) (λ bytes. length bytes ≤ MAX_SCRIPT) }
 
     // It stopped short before the writing: nothing was written.

@@ -62,7 +62,7 @@ impl Words {
 }
 
 fn command_named(word: &str) -> Option<Command>
-    ensures { result ≡ command_named word.now }
+    ensures command { result ≡ command_named word.now }
 {
     match word {
         "eval" => Some(Command::Eval),

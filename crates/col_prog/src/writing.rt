@@ -9,7 +9,7 @@ use crate::device::{Failed, Sink};
 /// Writes all of the text, or a front of it where the sink fails. Each write offers all that is
 /// left of the text.
 pub fn write_all<K: Sink>(sink: &mut K, text: &[u8]) -> Result<(), Failed>
-    requires { Fits (K.room sink.old) (length text.now) }
+    requires fits { Fits (K.room sink.old) (length text.now) }
     ensures written { OnOk result (Appends (K.contents sink.old) (K.contents sink.new) text.now) }
     ensures front { OnErr result
         (AppendsFront (K.contents sink.old) (K.contents sink.new) text.now) }

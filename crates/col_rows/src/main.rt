@@ -45,7 +45,7 @@ fn run_counted<S: Source, K: Sink, L: Ledger>(
 
 /// What the program answers to the row's script by devices of this step.
 fn answer_to(alloc: Global, row: &Row, step: usize) -> Result<(Status, MemorySink)>
-    requires { 0 < step }
+    requires step { 0 < step }
 {
     let words = words_of(alloc, row.words.as_str())?;
     let script = Vec::from_slice(alloc, row.script.as_bytes())?;
@@ -57,7 +57,7 @@ fn answer_to(alloc: Global, row: &Row, step: usize) -> Result<(Status, MemorySin
 
 /// Whether the row is answered as it has to be; prints what differs.
 fn is_answered(rt: &(impl Print + Alloc), alloc: Global, row: &Row, step: usize) -> Result<bool>
-    requires { 0 < step }
+    requires step { 0 < step }
 {
     let (status, sink) = answer_to(alloc, row, step)?;
     let same = status.message() == row.status.as_str() && sink.bytes() == row.answer.as_bytes();

@@ -18,7 +18,7 @@ fn answer_to(
     reads: &[u64],
     writes: &[u64],
 ) -> Result<(Status, MemorySink), Fail>
-    requires { 0 < step }
+    requires step { 0 < step }
 {
     let words = words_of(alloc, "eval")?;
     let mut source = MemorySource::new(script, step, Vec::from_slice(alloc, reads)?);

@@ -1,63 +1,59 @@
--- A row's text is that of its slot.
-use Rattle.std.proofs.Common.{◌≡◌, ◌<◌, ℕ, true, List, [], ◌∷◌, length, Option, Some, None, Result, Ok, refl, ap, ◌∙◌, zero, suc}
-use Rattle.std.specs.Prelude.{slice_index_or}
-use Rattle.std.specs.List.{list_all}
-use Rattle.std.proofs.lemmas.Bool.{and_parts, lt-ltb}
-use Rattle.col_types.specs.declared.data_type.DataType.{DataType, Date, Datetime, Duration, Time}
-use Rattle.col_model.specs.Value.{Value, Flat, Nested, Whole, Bytes}
-use Rattle.col_model.specs.Column.{Column, IsValidColumn, is_built_type, is_slot_of}
-use Rattle.col_series.specs.Seen.{Seen, seen_at, slot_seen}
-use Rattle.col_text.specs.Answer.{seen_text, slot_text}
+-- The lines of a column's slots are those of its ticks, and a line is written before its line feed.
+use Rattle.std.proofs.Common.{◌≡◌, ◌<◌, ◌≤◌, ◌+◌, ◌∙◌, ℕ, ℤ, pos, negsuc, false, true, List, [], ◌∷◌, ◌++◌, drop, length, map, Option, Some, None, refl, sym, ap, arith, int_le, unsigned_abs, zero, suc}
+use Rattle.std.specs.List.{flat_map}
+use Rattle.std.specs.Fmt.{decimal, signed_decimal}
+use Rattle.std.proofs.lemmas.List.{drop-drop, drop_at}
+use Rattle.std.proofs.lemmas.List.Folds.{flat_map-map}
+use Rattle.std.proofs.lemmas.Bool.{false≢true, le-leb}
+use Rattle.col_types.specs.declared.data_type.DataType.{DataType}
+use Rattle.col_model.specs.Column.{is_built_type}
+use Rattle.col_model.specs.Value.{Value, integer_slot}
+use Rattle.col_series.proofs.TypeLemmas.{by_built_type}
+use Rattle.col_text.specs.Answer.{line_of, slot_text, tick_text}
 
--- a slot's text is that of what it shows, in a column of a type that is built
-seen_text-slot : (dtype : DataType) (slot : Option Value) → is_built_type dtype ≡ true
-    → is_slot_of dtype slot ≡ true → seen_text (slot_seen dtype slot) ≡ slot_text slot
-seen_text-slot Date None built fits = refl
-seen_text-slot Date (Some (Flat (Whole x))) built fits = refl
-seen_text-slot Date (Some (Flat (Bytes bytes))) built fits = cc
-seen_text-slot Date (Some (Nested leaves)) built fits = cc
-seen_text-slot (Datetime unit _) None built fits = refl
-seen_text-slot (Datetime unit _) (Some (Flat (Whole x))) built fits = refl
-seen_text-slot (Datetime unit _) (Some (Flat (Bytes bytes))) built fits = cc
-seen_text-slot (Datetime unit _) (Some (Nested leaves)) built fits = cc
-seen_text-slot (Duration unit) None built fits = refl
-seen_text-slot (Duration unit) (Some (Flat (Whole x))) built fits = refl
-seen_text-slot (Duration unit) (Some (Flat (Bytes bytes))) built fits = cc
-seen_text-slot (Duration unit) (Some (Nested leaves)) built fits = cc
-seen_text-slot Time None built fits = refl
-seen_text-slot Time (Some (Flat (Whole x))) built fits = refl
-seen_text-slot Time (Some (Flat (Bytes bytes))) built fits = cc
-seen_text-slot Time (Some (Nested leaves)) built fits = cc
-seen_text-slot dtype slot built fits = cc
+-- what stands behind digits that end at a place
+pub behind_digits : (buffer digits rest : List ℕ) (start end : ℕ) → start + length digits ≡ end
+    → drop start buffer ≡ digits ++ rest → drop end buffer ≡ rest
+behind_digits buffer digits rest start end place written =
+    ap (λ n. drop n buffer) (sym place) ∙ sym (drop-drop (length digits) start buffer)
+    ∙ ap (drop (length digits)) written ∙ drop_at digits rest (length digits) refl
 
-slice_index_or-fits : (dtype : DataType) (slots : List (Option Value)) (row : ℕ)
-    → list_all (is_slot_of dtype) slots ≡ true
-    → is_slot_of dtype (slice_index_or slots row None) ≡ true
-slice_index_or-fits dtype [] row h = refl
-slice_index_or-fits dtype (slot ∷ slots) zero h =
-    (and_parts (is_slot_of dtype slot) (list_all (is_slot_of dtype) slots) h).0
-slice_index_or-fits dtype (slot ∷ slots) (suc row) h =
-    slice_index_or-fits dtype slots row
-    (and_parts (is_slot_of dtype slot) (list_all (is_slot_of dtype) slots) h).1
+-- an integer that isn't negative has its magnitude's text
+pub text_of-natural : (z : ℤ) → int_le (pos 0) z ≡ true → decimal (unsigned_abs z) ≡ signed_decimal z
+text_of-natural (pos n) e = refl
+text_of-natural (negsuc n) e = cc
 
-abbrev IsSame : {X E : Type 0} → Result X E → Result X E → Type 0
-IsSame left right = left ≡ right
+-- a negative integer has a minus before that
+pub text_of-negative : (z : ℤ) → int_le (pos 0) z ≡ false → 45 ∷ decimal (unsigned_abs z) ≡ signed_decimal z
+text_of-negative (pos n) e = absurd (false≢true (sym e ∙ le-leb 0 n (omega arith)))
+text_of-negative (negsuc n) e = refl
 
-ok_value : {X E : Type 0} (x y : X) → IsSame {X = X} {E = E} (Ok x) (Ok y) → x ≡ y
-ok_value x y h = cc
+-- a slot of a type that is built has the text of its tick
+tick_text-slot : (dtype : DataType) (slot : Option ℤ) → is_built_type dtype ≡ true
+    → tick_text slot ≡ slot_text dtype (integer_slot slot)
+tick_text-slot dtype None built = refl
+tick_text-slot dtype (Some x) built =
+    by_built_type (λ dtype. tick_text (Some x) ≡ slot_text dtype (integer_slot (Some x)))
+    refl (λ unit zone. refl) (λ unit. refl) refl dtype built
 
-shown : (column : Column) (row : ℕ) (seen : Seen) → row < length column.slots
-    → Ok seen ≡ seen_at column row
-    → seen ≡ slot_seen column.dtype (slice_index_or column.slots row None)
-shown column row seen within h =
-    let e = lt-ltb row (length column.slots) within in
-    ok_value _ _ (rw e at h)
+rows_by : (dtype : DataType) (ticks : List (Option ℤ)) → is_built_type dtype ≡ true
+    → flat_map (λ slot. line_of (tick_text slot)) ticks
+    ≡ flat_map (λ slot. line_of (slot_text dtype slot)) (map integer_slot ticks)
+rows_by dtype [] built = refl
+rows_by dtype (tick ∷ ticks) built =
+    ap (λ text. line_of text ++ flat_map (λ slot. line_of (tick_text slot)) ticks)
+    (tick_text-slot dtype tick built)
+    ∙ ap (λ rest. line_of (slot_text dtype (integer_slot tick)) ++ rest) (rows_by dtype ticks built)
 
--- what a row shows has the text of its slot
-pub seen_text-row : (column : Column) (row : ℕ) (seen : Seen) → IsValidColumn column
-    → row < length column.slots → Ok seen ≡ seen_at column row
-    → seen_text seen ≡ slot_text (slice_index_or column.slots row None)
-seen_text-row column row seen valid within h =
-    ap seen_text (shown column row seen within h)
-    ∙ seen_text-slot column.dtype _ valid.typed
-    (slice_index_or-fits column.dtype column.slots row valid.values)
+-- the lines of ticks are those of the slots that they are
+pub rows_of-ticks : (dtype : DataType) (ticks : List (Option ℤ)) (slots : List (Option Value))
+    → is_built_type dtype ≡ true → map integer_slot ticks ≡ slots
+    → flat_map (λ slot. line_of (tick_text slot)) ticks
+    ≡ flat_map (λ slot. line_of (slot_text dtype slot)) slots
+rows_of-ticks dtype ticks slots built e =
+    rows_by dtype ticks built ∙ ap (flat_map (λ slot. line_of (slot_text dtype slot))) e
+
+-- a text that is made of two parts, by what each part is
+pub parts_text : (text given header rows shown : List ℕ) → text ≡ given ++ rows → given ≡ header → rows ≡ shown
+    → text ≡ header ++ shown
+parts_text text given header rows shown e f g = e ∙ ap (λ front. front ++ rows) f ∙ ap (λ behind. header ++ behind) g

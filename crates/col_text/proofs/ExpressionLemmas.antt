@@ -5,7 +5,7 @@ use Rattle.col_expr.specs.Tree.{Tree, Symbol, is_within_limits}
 use Rattle.col_expr.specs.Postfix.{stack_with, stack_after, only_tree}
 use Rattle.col_text.specs.Symbols.{symbol_of}
 use Rattle.col_text.specs.Expression.{symbols_of, stack_after_token}
-use Rattle.col_text.specs.Slots.{with_first}
+use Rattle.col_text.specs.Parts.{with_first}
 use Rattle.col_text.specs.Reading.{Reads, Becomes}
 use Rattle.col_text.specs.declared.line_error.LineError.{LineError}
 use Rattle.col_text.specs.declared.line_error.LineError.TheVariants.{Bad, NoMemory}

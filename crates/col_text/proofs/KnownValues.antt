@@ -4,11 +4,12 @@ use Rattle.std.proofs.Common.{◌≡◌, ◌^◌, ◌-◌, true, false, refl, []
 use Rattle.std.specs.Prelude.{codes}
 use Rattle.std.specs.Fmt.{digits}
 use Rattle.col_types.specs.declared.time_unit.TimeUnit.TheVariants.{Nanoseconds, Microseconds, Milliseconds}
-use Rattle.col_types.specs.declared.data_type.DataType.{Binary, Date, Datetime, Duration, Time}
+use Rattle.col_types.specs.declared.data_type.DataType.{Binary, Boolean, Date, Datetime, Duration, Time}
 use Rattle.col_types.specs.declared.cast_options.CastOptions.TheVariants.{NonStrict, Strict, Overflowing}
 use Rattle.col_types.specs.declared.operator.BinOp.TheVariants as ops
 use Rattle.col_types.specs.declared.operator.ScalarOp.TheVariants as scalar_ops
 use Rattle.col_types.specs.declared.is_sorted.IsSorted.TheVariants.{Not}
+use Rattle.col_model.specs.Chunked.{in_one_chunk}
 use Rattle.col_model.specs.Value.{whole}
 use Rattle.col_expr.specs.Tree.{Input, Cast, Binary, InUnit, Shift, CastTo, Apply, ApplyRight, ApplyLeft, ToUnit, ShiftBy}
 use Rattle.col_expr.specs.declared.error.EvalError.TheVariants as refusals
@@ -16,10 +17,10 @@ use Rattle.col_text.specs.Numbers.{integer_of, number_of}
 use Rattle.col_text.specs.Types.{column_dtype, target_named}
 use Rattle.col_text.specs.Zone.{is_zone_name}
 use Rattle.col_text.specs.Symbols.{symbol_of}
-use Rattle.col_text.specs.Slots.{is_name, slots_of}
+use Rattle.col_text.specs.Slots.{is_name, chunks_of}
 use Rattle.col_text.specs.Expression.{expression_line}
 use Rattle.col_text.specs.Script.{script_of}
-use Rattle.col_text.specs.Answer.{column_text, refusal_text, bad_line_text}
+use Rattle.col_text.specs.Answer.{column_text, fault_text, bad_line_text}
 
 -- a sign and zeros at the front are good, a sign alone is not
 signs : (integer_of (codes "+5") ≡ Some (pos 5)) × (integer_of (codes "-0") ≡ Some (pos 0))
@@ -76,10 +77,13 @@ wildcards : (column_dtype [] (codes "datetime[ns,*]") ≡ None)
     × (target_named [] (codes "binary") ≡ Some Binary)
 wildcards = (refl, refl, refl)
 
--- chunks leave no trace among the slots
-chunks : slots_of (codes "|" ∷ codes "1" ∷ codes "|" ∷ codes "|" ∷ codes "null" ∷ [])
-    ≡ Some (Some (pos 1) ∷ None ∷ [])
-chunks = refl
+-- a bar ends a chunk, and chunks without a slot are dropped; a truth value has its word
+chunks : (chunks_of Date (codes "|" ∷ codes "1" ∷ codes "|" ∷ codes "|" ∷ codes "null" ∷ codes "2" ∷ [])
+    ≡ Some ((Some (pos 1) ∷ []) ∷ ((None ∷ Some (pos 2) ∷ []) ∷ [])))
+    × (chunks_of Boolean (codes "true" ∷ codes "null" ∷ codes "false" ∷ [])
+    ≡ Some ((Some (pos 1) ∷ None ∷ Some (pos 0) ∷ []) ∷ []))
+    × (chunks_of Boolean (codes "1" ∷ []) ≡ None) × (chunks_of Date (codes "true" ∷ []) ≡ None)
+chunks = (refl, refl, refl, refl)
 
 -- each kind of token
 tokens : (symbol_of [] (codes "cast!:date") ≡ Some (CastTo Date Strict))
@@ -114,12 +118,12 @@ expressions = (refl, refl, refl, refl, refl, refl, refl)
 -- a zone serves the lines behind it, also twice, and none before it
 zones : (script_of (codes "zone a/b\nzone a/b\ncol a datetime[ns,a/b]\nexpr $0")
     ≡ Ok (record {
-      inputs = record {
+      inputs = in_one_chunk (record {
         name = codes "a";
         dtype = Datetime Nanoseconds (Some (codes "a/b"));
         slots = [];
         flag = Not;
-      } ∷ [];
+      }) ∷ [];
       expr = Input 0;
     }))
     × (script_of (codes "col a datetime[ns,a/b]\nzone a/b\nexpr $0") ≡ Err 1)
@@ -130,12 +134,12 @@ zones = (refl, refl, refl, refl, refl)
 -- a column and an expression over it
 whole_script : script_of (codes "col a datetime[ns] -1 null\r\n\nexpr $0")
     ≡ Ok (record {
-      inputs = record {
+      inputs = in_one_chunk (record {
         name = codes "a";
         dtype = Datetime Nanoseconds None;
         slots = Some (whole (negsuc 0)) ∷ None ∷ [];
         flag = Not;
-      } ∷ [];
+      }) ∷ [];
       expr = Input 0;
     })
 whole_script = refl
@@ -159,7 +163,7 @@ unfolding digits
 column = refl
 
 -- the lines of a refusal and of a bad script
-lines : (refusal_text (refusals.Strict 2 10) ≡ codes "refused 2 strict 10\n")
+lines : (fault_text (refusals.Strict 2 10) ≡ codes "refused 2 strict 10\n")
     × (bad_line_text 12 ≡ codes "bad line 12\n")
 unfolding digits
 lines = (refl, refl)

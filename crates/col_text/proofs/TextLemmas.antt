@@ -1,11 +1,11 @@
 -- Names are text, since their bytes are ASCII, and a zone's name can be handed in.
 use Rattle.std.proofs.Common.{◌≡◌, ◌≢◌, ◌<◌, ◌≤◌, ◌⊎◌, inl, inr, ℕ, Bool, true, false, List, [], ◌∷◌, refl, sym, ap, ◌∙◌, length, nat_eq, arith, zero, suc, lit<}
 use Rattle.std.specs.Prelude.{◌&&◌, ◌||◌, nat_le, nat_lt, codes}
+use Rattle.std.specs.Char.{is_ascii_graphic, is_ascii_alphanumeric}
 use Rattle.std.specs.List.{list_all, list_any}
 use Rattle.std.specs.Str.{IsAscii, IsUtf8}
 use Rattle.std.proofs.lemmas.Str.{IsUtf8-from_ascii}
 use Rattle.std.proofs.lemmas.Bool.{false≢true, and_parts, ltb-true, leb-true, eqb-true}
-use Rattle.col_text.specs.Parts.{is_graphic}
 use Rattle.col_text.specs.Slots.{is_name}
 use Rattle.col_text.specs.Zone.{is_zone_byte, is_zone_name}
 
@@ -31,37 +31,41 @@ up_to low high byte small h =
     let below : byte ≤ high = leb-true byte high most in
     omega arith
 
-is_graphic-ascii : IsAsciiTest is_graphic
-is_graphic-ascii byte h = up_to 33 126 byte (lit< tt) h
+is_ascii_graphic-ascii : IsAsciiTest is_ascii_graphic
+is_ascii_graphic-ascii byte h = up_to 33 126 byte (lit< tt) h
 
 is_sign-ascii : IsAsciiTest (λ byte. list_any (nat_eq byte) (codes "/_+-:"))
 is_sign-ascii byte h = grind (arith, eqb-true, either)
 
-is_zone_byte-ascii : IsAsciiTest is_zone_byte
-is_zone_byte-ascii byte h =
+is_ascii_alphanumeric-ascii : IsAsciiTest is_ascii_alphanumeric
+is_ascii_alphanumeric-ascii byte h =
     let digit = nat_le 48 byte && nat_le byte 57 in
     let capital = nat_le 65 byte && nat_le byte 90 in
     let small = nat_le 97 byte && nat_le byte 122 in
-    let sign = list_any (nat_eq byte) (codes "/_+-:") in
-    elim (either (digit || capital || small) sign h) [
-      | inr at ↦ is_sign-ascii byte at
-      | inl letter ↦ elim (either (digit || capital) small letter) [
-        | inr at ↦ up_to 97 122 byte (lit< tt) at
-        | inl other ↦ elim (either digit capital other) [
-          | inr at ↦ up_to 65 90 byte (lit< tt) at
-          | inl at ↦ up_to 48 57 byte (lit< tt) at
-        ]
+    elim (either (digit || capital) small h) [
+      | inr at ↦ up_to 97 122 byte (lit< tt) at
+      | inl other ↦ elim (either digit capital other) [
+        | inr at ↦ up_to 65 90 byte (lit< tt) at
+        | inl at ↦ up_to 48 57 byte (lit< tt) at
       ]
     ]
 
+is_zone_byte-ascii : IsAsciiTest is_zone_byte
+is_zone_byte-ascii byte h =
+    let sign = list_any (nat_eq byte) (codes "/_+-:") in
+    elim (either (is_ascii_alphanumeric byte) sign h) [
+      | inr at ↦ is_sign-ascii byte at
+      | inl letter ↦ is_ascii_alphanumeric-ascii byte letter
+    ]
+
 -- visible bytes are text
-pub IsUtf8-graphic : (bytes : List ℕ) → list_all is_graphic bytes ≡ true → IsUtf8 bytes
+pub IsUtf8-graphic : (bytes : List ℕ) → list_all is_ascii_graphic bytes ≡ true → IsUtf8 bytes
 IsUtf8-graphic bytes h =
-    IsUtf8-from_ascii bytes (IsAscii-all is_graphic is_graphic-ascii bytes h)
+    IsUtf8-from_ascii bytes (IsAscii-all is_ascii_graphic is_ascii_graphic-ascii bytes h)
 
 -- a name is text
 pub IsUtf8-name : (bytes : List ℕ) → is_name bytes ≡ true → IsUtf8 bytes
-IsUtf8-name bytes h = IsUtf8-graphic bytes (and_parts _ (list_all is_graphic bytes) h).1
+IsUtf8-name bytes h = IsUtf8-graphic bytes (and_parts _ (list_all is_ascii_graphic bytes) h).1
 
 -- a zone's name is text
 pub IsUtf8-zone_name : (bytes : List ℕ) → is_zone_name bytes ≡ true → IsUtf8 bytes

@@ -1,32 +1,43 @@
 -- The texts of answers.
-use Rattle.std.specs.Prelude.{ℕ, ◌++◌, List, [], ◌∷◌, Option, Some, None, length, codes}
+use Rattle.std.specs.Prelude.{ℕ, zero, ℤ, pos, ◌++◌, List, [], ◌∷◌, Option, Some, None, length, codes}
 use Rattle.std.specs.List.{flat_map}
 use Rattle.std.specs.Fmt.{decimal, signed_decimal}
+use Rattle.col_types.specs.declared.data_type.DataType.{DataType, Boolean}
 use Rattle.col_model.specs.Value.{Value, Flat, Nested, Whole, Bytes}
 use Rattle.col_model.specs.Column.{Column}
-use Rattle.col_series.specs.Seen.{Seen, null, date, datetime, duration, time}
 use Rattle.col_expr.specs.declared.error.EvalError.{EvalError}
 use Rattle.col_expr.specs.declared.error.EvalError.TheVariants as refusals
 use Rattle.col_text.specs.Types.{dtype_text}
 
+-- the byte that ends a line
+abbrev pub line_feed : ℕ
+line_feed = 10
+
 -- a line of this text
 abbrev pub line_of : List ℕ → List ℕ
-line_of text = text ++ (10 ∷ [])
+line_of text = text ++ (line_feed ∷ [])
 
--- a null or an integer; no column of a script has other values
-abbrev pub slot_text : Option Value → List ℕ
-slot_text None = codes "null"
-slot_text (Some (Flat (Whole x))) = signed_decimal x
-slot_text (Some (Flat (Bytes bytes))) = []
-slot_text (Some (Nested leaves)) = []
+-- the word of a truth value
+abbrev pub truth_text : ℤ → List ℕ
+truth_text (pos zero) = codes "false"
+truth_text _ = codes "true"
 
--- the same of what a slot shows
-abbrev pub seen_text : Seen → List ℕ
-seen_text null = codes "null"
-seen_text (date day) = signed_decimal day
-seen_text (datetime tick unit _) = signed_decimal tick
-seen_text (duration tick unit) = signed_decimal tick
-seen_text (time tick) = signed_decimal tick
+-- the text of an integer in a column of the type: a truth value has its word
+abbrev pub integer_text : DataType → ℤ → List ℕ
+integer_text Boolean x = truth_text x
+integer_text _ x = signed_decimal x
+
+-- `null`, or the text of the value; no column of a script has bytes or lists
+abbrev pub slot_text : DataType → Option Value → List ℕ
+slot_text dtype None = codes "null"
+slot_text dtype (Some (Flat (Whole x))) = integer_text dtype x
+slot_text dtype (Some (Flat (Bytes bytes))) = []
+slot_text dtype (Some (Nested leaves)) = []
+
+-- `null`, or an integer
+abbrev pub tick_text : Option ℤ → List ℕ
+tick_text None = codes "null"
+tick_text (Some x) = signed_decimal x
 
 -- the line of the name, the type and the number of rows
 abbrev pub header_text : Column → List ℕ
@@ -36,7 +47,8 @@ header_text column =
 
 -- that line, and then a line for each slot
 abbrev pub column_text : Column → List ℕ
-column_text column = header_text column ++ flat_map (λ slot. line_of (slot_text slot)) column.slots
+column_text column =
+    header_text column ++ flat_map (λ slot. line_of (slot_text column.dtype slot)) column.slots
 
 -- a refused node's number, and what the line says behind it
 abbrev pub refused_text : ℕ → List ℕ → List ℕ
@@ -47,17 +59,17 @@ abbrev pub two_numbers : ℕ → ℕ → List ℕ
 two_numbers left right = decimal left ++ (codes " " ++ line_of (decimal right))
 
 -- the line of a refusal; want of memory is none
-abbrev pub refusal_text : EvalError → List ℕ
-refusal_text (refusals.NoColumn node index count) =
+abbrev pub fault_text : EvalError → List ℕ
+fault_text (refusals.NoColumn node index count) =
     refused_text node (codes "column " ++ two_numbers index count)
-refusal_text (refusals.Lengths node left right) =
+fault_text (refusals.Lengths node left right) =
     refused_text node (codes "lengths " ++ two_numbers left right)
-refusal_text (refusals.BadType node) = refused_text node (line_of (codes "type"))
-refusal_text (refusals.Unsupported node) = refused_text node (line_of (codes "unsupported"))
-refusal_text (refusals.Scalar node) = refused_text node (line_of (codes "scalar"))
-refusal_text (refusals.Strict node row) =
+fault_text (refusals.BadType node) = refused_text node (line_of (codes "type"))
+fault_text (refusals.Unsupported node) = refused_text node (line_of (codes "unsupported"))
+fault_text (refusals.Scalar node) = refused_text node (line_of (codes "scalar"))
+fault_text (refusals.Strict node row) =
     refused_text node (codes "strict " ++ line_of (decimal row))
-refusal_text refusals.NoMemory = []
+fault_text refusals.NoMemory = []
 
 -- a refusal that has a line: all but want of memory
 abbrev pub HasText : EvalError → Type 0

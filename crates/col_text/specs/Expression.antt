@@ -2,13 +2,12 @@
 use Rattle.std.specs.Prelude.{ℕ, List, [], ◌∷◌, Option, Some, None, option_and_then, if◌then◌else◌}
 use Rattle.col_expr.specs.Tree.{Tree, Symbol, is_within_limits}
 use Rattle.col_expr.specs.Postfix.{stack_with, tree_of}
-use Rattle.col_text.specs.Slots.{with_first}
+use Rattle.col_text.specs.Parts.{all_read}
 use Rattle.col_text.specs.Symbols.{symbol_of}
 
 -- the nodes that the tokens spell, none where a token spells none
 abbrev pub symbols_of : List (List ℕ) → List (List ℕ) → Option (List Symbol)
-symbols_of zones [] = Some []
-symbols_of zones (token ∷ tokens) = with_first (symbol_of zones token) (symbols_of zones tokens)
+symbols_of zones tokens = all_read (symbol_of zones) tokens
 
 -- the expression that stands behind `expr`: the one tree whose nodes the tokens spell
 abbrev pub expression_line : List (List ℕ) → List (List ℕ) → Option Tree

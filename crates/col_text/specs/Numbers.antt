@@ -1,6 +1,6 @@
 -- Numbers and integers in decimal digits.
 use Rattle.std.specs.Prelude.{ℕ, ◌^◌, Bool, ◌&&◌, ◌||◌, List, get_or, ℤ, pos, negsuc, neg_ℤ, Option, Some, None, option_and_then, option_map, nat_lt, nat_eq, length, drop, if◌then◌else◌}
-use Rattle.std.specs.Int.{w128}
+use Rattle.std.specs.Int.{w64, w128}
 use Rattle.std.specs.Str.{all_ascii_digits}
 use Rattle.std.specs.Str.Parse.{digits_value, starts_with_minus, without_leading_plus}
 use Rattle.col_model.specs.Arithmetic.{Signed, word_values, fitting_value}
@@ -37,3 +37,19 @@ signed_of text =
 -- an integer: digits with a sign or none, from -2^127 to 2^127 - 1
 abbrev pub integer_of : List ℕ → Option ℤ
 integer_of text = option_and_then (fitting_value (word_values (Signed w128))) (signed_of text)
+
+-- the integer, where 64 bits hold it
+abbrev pub tick_fit : ℤ → Option ℤ
+tick_fit x = fitting_value (word_values (Signed w64)) x
+
+-- an integer that 64 bits hold
+abbrev pub tick_of : List ℕ → Option ℤ
+tick_of text = option_and_then tick_fit (integer_of text)
+
+-- what stands behind the sign, if there is one
+abbrev pub behind_sign : List ℕ → List ℕ
+behind_sign text = if starts_with_minus text then drop 1 text else without_leading_plus text
+
+-- the number, or its negative
+abbrev pub with_sign : Bool → ℕ → ℤ
+with_sign minus n = if minus then neg_ℤ (pos n) else pos n

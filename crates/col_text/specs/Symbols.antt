@@ -1,11 +1,11 @@
 -- The nodes that tokens spell.
 use Rattle.std.specs.Prelude.{ℕ, ◌+◌, ℤ, List, [], ◌∷◌, take, drop, nat_eq, find, Option, option_and_then, option_map, codes}
 use Rattle.std.specs.List.{position}
+use Rattle.std.specs.Option.{option_or}
 use Rattle.std.specs.Int.{w64}
 use Rattle.std.specs.Str.{bytes_eq}
-use Rattle.col_types.specs.TimeUnit.{unit_name}
+use Rattle.col_types.specs.TimeUnit.{all_units, unit_name}
 use Rattle.col_types.specs.declared.time_unit.TimeUnit.{TimeUnit}
-use Rattle.col_types.specs.declared.time_unit.TimeUnit.TheVariants.{Nanoseconds, Microseconds, Milliseconds}
 use Rattle.col_types.specs.declared.operator.BinOp.{BinOp}
 use Rattle.col_types.specs.declared.operator.BinOp.TheVariants as ops
 use Rattle.col_types.specs.declared.operator.ScalarOp.{ScalarOp}
@@ -15,7 +15,7 @@ use Rattle.col_types.specs.declared.cast_options.CastOptions.TheVariants.{Strict
 use Rattle.col_model.specs.Arithmetic.{Signed, word_values, fitting_value}
 use Rattle.col_expr.specs.Tree.{Symbol, TakeInput, CastTo, Apply, ApplyRight, ApplyLeft, ToUnit, ShiftBy}
 use Rattle.col_text.specs.Numbers.{number_of, integer_of}
-use Rattle.col_text.specs.Parts.{after_prefix, first_reading}
+use Rattle.col_text.specs.Parts.{after_prefix}
 use Rattle.col_text.specs.Types.{target_named}
 
 -- `$N` takes input N
@@ -31,8 +31,8 @@ cast_symbol_by zones options word text =
 -- `cast:TYPE` makes null of what has no room, `cast!:TYPE` is refused, `cast~:TYPE` wraps
 abbrev pub cast_symbol : List (List ℕ) → List ℕ → Option Symbol
 cast_symbol zones text =
-    first_reading (cast_symbol_by zones NonStrict (codes "cast:") text)
-    (first_reading (cast_symbol_by zones Strict (codes "cast!:") text)
+    option_or (cast_symbol_by zones NonStrict (codes "cast:") text)
+    (option_or (cast_symbol_by zones Strict (codes "cast!:") text)
     (cast_symbol_by zones Overflowing (codes "cast~:") text))
 
 -- the sign of an operator between two columns, or between an integer and a column
@@ -94,9 +94,7 @@ left_symbol text =
 
 -- the unit of a name
 abbrev pub unit_named : List ℕ → Option TimeUnit
-unit_named text =
-    find (λ unit. bytes_eq text (unit_name unit))
-    (Nanoseconds ∷ (Microseconds ∷ (Milliseconds ∷ [])))
+unit_named text = find (λ unit. bytes_eq text (unit_name unit)) all_units
 
 -- `unit:UNIT` changes the unit
 abbrev pub unit_symbol : List ℕ → Option Symbol
@@ -115,6 +113,6 @@ shift_symbol text =
 -- the node that a token spells, with the zones handed in before
 abbrev pub symbol_of : List (List ℕ) → List ℕ → Option Symbol
 symbol_of zones text =
-    first_reading (input_symbol text) (first_reading (cast_symbol zones text)
-    (first_reading (binary_symbol text) (first_reading (right_symbol text)
-    (first_reading (left_symbol text) (first_reading (unit_symbol text) (shift_symbol text))))))
+    option_or (input_symbol text) (option_or (cast_symbol zones text)
+    (option_or (binary_symbol text) (option_or (right_symbol text)
+    (option_or (left_symbol text) (option_or (unit_symbol text) (shift_symbol text))))))

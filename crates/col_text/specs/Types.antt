@@ -1,15 +1,16 @@
 -- The texts of types.
-use Rattle.std.specs.Prelude.{ℕ, List, [], ◌∷◌, ◌++◌, Option, Some, None, option_and_then, option_map, if◌then◌else◌, codes, find}
+use Rattle.std.specs.Prelude.{ℕ, List, [], ◌∷◌, ◌++◌, map, Option, Some, None, option_and_then, option_map, if◌then◌else◌, codes, find}
+use Rattle.std.specs.Char.{is_ascii_graphic}
 use Rattle.std.specs.List.{list_all}
+use Rattle.std.specs.Option.{option_or}
 use Rattle.std.specs.Result.{result_ok}
 use Rattle.std.specs.Str.{bytes_eq}
-use Rattle.col_types.specs.TimeUnit.{unit_name}
+use Rattle.col_types.specs.TimeUnit.{all_units, unit_name}
 use Rattle.col_types.specs.Zones.{opt_zone}
 use Rattle.col_types.specs.DataType.{is_expression_type}
 use Rattle.col_types.specs.declared.time_unit.TimeUnit.{TimeUnit}
-use Rattle.col_types.specs.declared.time_unit.TimeUnit.TheVariants.{Nanoseconds, Microseconds, Milliseconds}
 use Rattle.col_types.specs.declared.data_type.DataType.{DataType, String, Binary, Date, Datetime, Duration, Time}
-use Rattle.col_text.specs.Parts.{is_graphic, after_prefix, before_suffix, first_reading}
+use Rattle.col_text.specs.Parts.{after_prefix, before_suffix, first_read}
 
 -- a zone behind its unit
 abbrev pub zone_text : Option (List ℕ) → List ℕ
@@ -34,9 +35,7 @@ dtype_among dtypes text = find (λ dtype. bytes_eq text (dtype_text dtype)) dtyp
 -- the types of columns without a zone
 abbrev pub plain_dtypes : List DataType
 plain_dtypes =
-    Date ∷ (Time ∷
-    (Datetime Nanoseconds None ∷ (Datetime Microseconds None ∷ (Datetime Milliseconds None ∷
-    (Duration Nanoseconds ∷ (Duration Microseconds ∷ (Duration Milliseconds ∷ [])))))))
+    Date ∷ (Time ∷ (map (λ unit. Datetime unit None) all_units ++ map Duration all_units))
 
 -- the types that a cast can name beside those of columns
 abbrev pub target_dtypes : List DataType
@@ -45,7 +44,7 @@ target_dtypes = String ∷ (Binary ∷ [])
 -- the zone that a text in a type names, with the names handed in: an empty text names none
 abbrev pub zone_named : List (List ℕ) → List ℕ → Option (Option (List ℕ))
 zone_named names text =
-    if list_all is_graphic text then result_ok (opt_zone names (Some text)) else None
+    if list_all is_ascii_graphic text then result_ok (opt_zone names (Some text)) else None
 
 -- the text of the zone in `datetime[UNIT,ZONE]`
 abbrev pub zone_part : TimeUnit → List ℕ → Option (List ℕ)
@@ -61,10 +60,7 @@ zoned_dtype names text unit =
 -- the type that a text names
 abbrev pub dtype_named : List (List ℕ) → List ℕ → Option DataType
 dtype_named names text =
-    first_reading (dtype_among plain_dtypes text)
-    (first_reading (zoned_dtype names text Nanoseconds)
-    (first_reading (zoned_dtype names text Microseconds)
-    (zoned_dtype names text Milliseconds)))
+    option_or (dtype_among plain_dtypes text) (first_read (zoned_dtype names text) all_units)
 
 -- the type, where an expression can have columns of it
 abbrev pub expression_type : DataType → Option DataType
@@ -76,5 +72,4 @@ column_dtype names text = option_and_then expression_type (dtype_named names tex
 
 -- the target of a cast that a text names
 abbrev pub target_named : List (List ℕ) → List ℕ → Option DataType
-target_named names text =
-    first_reading (dtype_named names text) (dtype_among target_dtypes text)
+target_named names text = option_or (dtype_named names text) (dtype_among target_dtypes text)

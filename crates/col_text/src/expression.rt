@@ -1,53 +1,44 @@
 // The line of the expression.
 ghost use Rattle.std.specs.Prelude.{◌≡◌, true};
-ghost use Rattle.col_expr.specs.Tree.{Apply, Binary, TakeInput, is_within_limits};
+ghost use Rattle.col_expr.specs.Built.{is_built_operation};
+ghost use Rattle.col_expr.specs.Node.{operation_symbol, over};
 ghost use Rattle.col_expr.specs.Postfix.{stack_with, only_tree};
+ghost use Rattle.col_expr.specs.Tree.{Apply, Binary, is_within_limits};
 ghost use Rattle.col_token.specs.Tokens.{words_in};
 ghost use Rattle.col_text.specs.Expression.{expression_line, stack_after_token, within_limits};
-ghost use Rattle.col_text.specs.Nodes.{
-  is_built_node,
-  is_built_operation,
-  node_symbol,
-  operation_symbol,
-  tree_over,
-};
+ghost use Rattle.col_text.specs.Nodes.{is_built_node, node_symbol};
 ghost use Rattle.col_text.specs.Reading.{Reads, Becomes};
 
 use crate::line_error::LineError;
-use crate::node::{Node, Operation, node_of};
+use crate::node::{Node, node_of};
 use crate::stack::Stack;
-use col_expr::{BinOp, Expr};
+use col_expr::{BinOp, Expr, UnaryOp};
 use col_token::first_token;
 use col_types::ZoneNames;
 use std::alloc::Global;
 
-/// The operation over its operand.
-fn over(alloc: Global, operation: Operation, operand: Expr) -> Result<Expr, LineError>
+/// The tree of an operation over its operand.
+fn unary(alloc: Global, operation: UnaryOp, operand: Expr) -> Result<Expr, LineError>
     requires built { is_built_operation operation ≡ true }
-    ensures tree { Reads result (within_limits (tree_over operation operand)) }
+    ensures tree { Reads result (within_limits (over operation operand)) }
 {
-    match operation {
-        Operation::Cast(dtype, options) => Ok(Expr::cast(alloc, operand, dtype, options)?),
-        Operation::ScalarRight(op, value) => Ok(Expr::scalar_right(alloc, operand, op, value)?),
-        Operation::ScalarLeft(value, op) => Ok(Expr::scalar_left(alloc, value, op, operand)?),
-        Operation::Unit(unit) => Ok(Expr::unit(alloc, operand, unit)?),
-        Operation::Shift(periods) => Ok(Expr::shift(alloc, operand, periods)?),
-    }
+    Ok(Expr::unary(alloc, operation, operand)?)
 }
 
-fn joined(alloc: Global, op: BinOp, left: Expr, right: Expr) -> Result<Expr, LineError>
+/// The tree of two operands.
+fn binary(alloc: Global, op: BinOp, left: Expr, right: Expr) -> Result<Expr, LineError>
     ensures tree { Reads result (within_limits (Binary op left right)) }
 {
     Ok(Expr::binary(alloc, op, left, right)?)
 }
 
-fn push_unary(alloc: Global, stack: &mut Stack, operation: Operation) -> Result<(), LineError>
+fn push_unary(alloc: Global, stack: &mut Stack, operation: UnaryOp) -> Result<(), LineError>
     requires built { is_built_operation operation ≡ true }
     ensures stack { Becomes result stack.new
         (stack_with is_within_limits (operation_symbol operation) stack.old) }
 {
     match stack.pop() {
-        Some(operand) => Ok(stack.push(over(alloc, operation, operand)?)?),
+        Some(operand) => Ok(stack.push(unary(alloc, operation, operand)?)?),
         None => Err(LineError::Bad),
     }
 }
@@ -61,7 +52,7 @@ fn push_binary(alloc: Global, stack: &mut Stack, op: BinOp) -> Result<(), LineEr
         return Err(LineError::Bad);
     };
     match stack.pop() {
-        Some(left) => Ok(stack.push(joined(alloc, op, left, right)?)?),
+        Some(left) => Ok(stack.push(binary(alloc, op, left, right)?)?),
         None => Err(LineError::Bad),
     }
 }

@@ -10,6 +10,7 @@ mod node;
 mod numbers;
 mod script;
 mod stack;
+mod ticks;
 mod words;
 mod zone;
 

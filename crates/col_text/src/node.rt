@@ -24,25 +24,15 @@ ghost use Rattle.col_text.specs.Nodes.{is_built_node, node_symbol};
 use crate::dtypes::target_named;
 use crate::numbers::{integer, number};
 use crate::words::is_word;
-use col_expr::{BinOp, CastOptions, ScalarOp};
-use col_types::{DataType, TimeUnit, ZoneNames};
+use col_expr::{BinOp, CastOptions, ScalarOp, UnaryOp};
+use col_types::{TimeUnit, ZoneNames};
 
 /// A node without its operands.
 #[derive(Drop)]
 pub(crate) enum Node {
     Input(u32),
     Binary(BinOp),
-    Unary(Operation),
-}
-
-/// A node with one operand. An integer stands on the side that the variant names.
-#[derive(Drop)]
-pub(crate) enum Operation {
-    Cast(DataType, CastOptions),
-    ScalarRight(ScalarOp, i128),
-    ScalarLeft(i128, BinOp),
-    Unit(TimeUnit),
-    Shift(i64),
+    Unary(UnaryOp),
 }
 
 fn input(token: &[u8]) -> Option<Node>
@@ -58,7 +48,7 @@ fn cast_by(zones: &ZoneNames, options: CastOptions, word: &str, token: &[u8]) ->
     ensures built { IfSome result (λ node. is_built_node node ≡ true) }
 {
     let dtype = target_named(zones, token.strip_prefix(word.as_bytes())?)?;
-    Some(Node::Unary(Operation::Cast(dtype, options)))
+    Some(Node::Unary(UnaryOp::Cast(dtype, options)))
 }
 
 fn cast(zones: &ZoneNames, token: &[u8]) -> Option<Node>
@@ -139,7 +129,7 @@ fn scalar_right(token: &[u8]) -> Option<Node>
 {
     let (sign, value) = hash_parts(token)?;
     let op = scalar_op_named(sign)?;
-    Some(Node::Unary(Operation::ScalarRight(op, integer(value)?)))
+    Some(Node::Unary(UnaryOp::ScalarRight(op, integer(value)?)))
 }
 
 fn scalar_left(token: &[u8]) -> Option<Node>
@@ -148,7 +138,7 @@ fn scalar_left(token: &[u8]) -> Option<Node>
 {
     let (value, sign) = hash_parts(token)?;
     let value = integer(value)?;
-    Some(Node::Unary(Operation::ScalarLeft(value, op_named(sign)?)))
+    Some(Node::Unary(UnaryOp::ScalarLeft(value, op_named(sign)?)))
 }
 
 fn unit_named(token: &[u8]) -> Option<TimeUnit>
@@ -170,7 +160,7 @@ fn unit(token: &[u8]) -> Option<Node>
     ensures built { IfSome result (λ node. is_built_node node ≡ true) }
 {
     let unit = unit_named(token.strip_prefix(b"unit:")?)?;
-    Some(Node::Unary(Operation::Unit(unit)))
+    Some(Node::Unary(UnaryOp::InUnit(unit)))
 }
 
 fn periods(token: &[u8]) -> Option<i64>
@@ -184,7 +174,7 @@ fn shift(token: &[u8]) -> Option<Node>
     ensures built { IfSome result (λ node. is_built_node node ≡ true) }
 {
     let periods = periods(token.strip_prefix(b"shift:")?)?;
-    Some(Node::Unary(Operation::Shift(periods)))
+    Some(Node::Unary(UnaryOp::Shift(periods)))
 }
 
 /// The node that a token spells, with the zones handed in before.

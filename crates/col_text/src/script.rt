@@ -1,13 +1,14 @@
 // A script, line by line.
-ghost use Rattle.std.specs.Prelude.{◌≡◌, ◌<◌, ◌≤◌, ◌+◌, ◌-◌, ◌^◌, length, IfOk};
+ghost use Rattle.std.specs.Prelude.{◌≡◌, ◌<◌, ◌≤◌, ◌+◌, ◌-◌, ◌^◌, length, OnOk};
 ghost use Rattle.col_token.specs.Places.{longest_text};
 ghost use Rattle.col_token.specs.Tokens.{words_in};
-ghost use Rattle.col_text.specs.Reading.{Reads as ReadsLine};
+ghost use Rattle.col_text.specs.Reading.{Becomes};
 ghost use Rattle.col_text.specs.Script.{
   Reads,
-  column_count,
+  finished,
+  no_progress,
+  progress_after,
   script_of,
-  stage_after,
   with_column,
   with_expression,
   with_zone,
@@ -40,108 +41,108 @@ pub enum ReadError {
     NoMemory,
 }
 
-/// How far a script is read.
+/// What is read of a script so far. Behind the expression come lines without tokens alone.
 #[derive(Drop)]
-pub(crate) enum Stage {
-    /// The zones and the columns so far.
-    Columns(ZoneNames, Inputs),
-    /// The expression is read too.
-    Complete(Script),
-}
-
-fn with_zone(
-    alloc: Global,
+pub(crate) struct Progress {
     zones: ZoneNames,
     inputs: Inputs,
-    line: &[u8],
-) -> Result<Stage, LineError>
-    ensures stage { ReadsLine result (with_zone zones inputs (words_in line.now)) }
-    ensures count { IfOk result (λ stage. column_count stage ≤ length inputs + 1) }
-{
-    let name = zone_line(alloc, line)?;
-    let mut zones = zones;
-    match zones.insert(name) {
-        Ok(()) => Ok(Stage::Columns(zones, inputs)),
-        Err(_) => Err(LineError::NoMemory),
-    }
+    expr: Option<Expr>,
 }
 
-fn with_column(
-    alloc: Global,
-    zones: ZoneNames,
-    inputs: Inputs,
-    line: &[u8],
-) -> Result<Stage, LineError>
-    requires room { length inputs < 2 ^ 32 - 1 }
-    ensures stage { ReadsLine result (with_column zones inputs (words_in line.now)) }
-    ensures count { IfOk result (λ stage. column_count stage ≤ length inputs + 1) }
-{
-    let column = column_line(alloc, &zones, line)?;
-    let mut inputs = inputs;
-    match inputs.push(column) {
-        Ok(()) => Ok(Stage::Columns(zones, inputs)),
-        Err(_) => Err(LineError::NoMemory),
-    }
-}
-
-fn with_expression(
-    alloc: Global,
-    zones: ZoneNames,
-    inputs: Inputs,
-    line: &[u8],
-) -> Result<Stage, LineError>
-    ensures stage { ReadsLine result (with_expression zones inputs (words_in line.now)) }
-    ensures count { IfOk result (λ stage. column_count stage ≤ length inputs + 1) }
-{
-    let expr = expression_line(alloc, &zones, line)?;
-    Ok(Stage::Complete(Script { inputs, expr }))
-}
-
-/// The stage after a line.
-fn next_stage(alloc: Global, stage: Stage, line: &[u8]) -> Result<Stage, LineError>
-    requires room { column_count stage < 2 ^ 32 - 1 }
-    ensures stage { ReadsLine result (stage_after stage (words_in line.now)) }
-    ensures count { IfOk result (λ next. column_count next ≤ column_count stage + 1) }
-{
-    let Some((word, rest)) = first_token(line) else {
-        return Ok(stage);
-    };
-    match stage {
-        Stage::Columns(zones, inputs) => {
-            if is_word(word, "zone") {
-                with_zone(alloc, zones, inputs, rest)
-            } else if is_word(word, "col") {
-                with_column(alloc, zones, inputs, rest)
-            } else if is_word(word, "expr") {
-                with_expression(alloc, zones, inputs, rest)
-            } else {
-                Err(LineError::Bad)
-            }
+impl Progress {
+    fn new(alloc: Global) -> Progress
+        ensures nothing { result ≡ no_progress }
+    {
+        Progress {
+            zones: ZoneNames::new(alloc),
+            inputs: Inputs::new(alloc),
+            expr: None,
         }
-        Stage::Complete(_) => Err(LineError::Bad),
+    }
+
+    fn push_zone(&mut self, alloc: Global, line: &[u8]) -> Result<(), LineError>
+        ensures progress { Becomes result self.new (with_zone self.old (words_in line.now)) }
+        ensures count { OnOk result (length self.new.inputs ≤ length self.old.inputs + 1) }
+    {
+        let name = zone_line(alloc, line)?;
+        match self.zones.insert(name) {
+            Ok(()) => Ok(()),
+            Err(_) => Err(LineError::NoMemory),
+        }
+    }
+
+    fn push_column(&mut self, alloc: Global, line: &[u8]) -> Result<(), LineError>
+        requires room { length self.old.inputs < 2 ^ 32 - 1 }
+        ensures progress { Becomes result self.new (with_column self.old (words_in line.now)) }
+        ensures count { OnOk result (length self.new.inputs ≤ length self.old.inputs + 1) }
+    {
+        let column = column_line(alloc, &self.zones, line)?;
+        match self.inputs.push(column) {
+            Ok(()) => Ok(()),
+            Err(_) => Err(LineError::NoMemory),
+        }
+    }
+
+    fn set_expression(&mut self, alloc: Global, line: &[u8]) -> Result<(), LineError>
+        ensures progress { Becomes result self.new (with_expression self.old (words_in line.now)) }
+        ensures count { OnOk result (length self.new.inputs ≤ length self.old.inputs + 1) }
+    {
+        self.expr = Some(expression_line(alloc, &self.zones, line)?);
+        Ok(())
+    }
+
+    /// Reads one line more.
+    fn read_line(&mut self, alloc: Global, line: &[u8]) -> Result<(), LineError>
+        requires room { length self.old.inputs < 2 ^ 32 - 1 }
+        ensures progress { Becomes result self.new (progress_after self.old (words_in line.now)) }
+        ensures count { OnOk result (length self.new.inputs ≤ length self.old.inputs + 1) }
+    {
+        let Some((word, rest)) = first_token(line) else {
+            return Ok(());
+        };
+        if self.expr.is_some() {
+            Err(LineError::Bad)
+        } else if is_word(word, "zone") {
+            self.push_zone(alloc, rest)
+        } else if is_word(word, "col") {
+            self.push_column(alloc, rest)
+        } else if is_word(word, "expr") {
+            self.set_expression(alloc, rest)
+        } else {
+            Err(LineError::Bad)
+        }
+    }
+
+    /// The script, or, where its expression is missing, that the line of this number is bad.
+    fn script(self, line: u32) -> Result<Script, ReadError>
+        ensures script { Reads result (finished line self) }
+    {
+        let Progress { inputs, expr, .. } = self;
+        match expr {
+            Some(expr) => Ok(Script { inputs, expr }),
+            None => Err(ReadError::BadLine { line }),
+        }
     }
 }
 
-/// The script that the text is, or its first bad line. The text has at most 16,777,216 bytes.
+/// The script that the text is, or its first bad line. The text has at most
+/// `col_token::MAX_TEXT` bytes.
 pub fn read_script(alloc: Global, text: &[u8]) -> Result<Script, ReadError>
     requires short { length text.now ≤ longest_text }
     ensures script { Reads result (script_of text.now) }
 {
-    let mut stage = Stage::Columns(ZoneNames::new(alloc), Inputs::new(alloc));
+    let mut progress = Progress::new(alloc);
     let mut number: u32 = 1;
     let mut rest = text;
     'lines: while !rest.is_empty() {
         let (line, more) = first_line(rest);
-        stage = match next_stage(alloc, stage, content(line)) {
-            Ok(next) => next,
+        match progress.read_line(alloc, content(line)) {
+            Ok(()) => {}
             Err(LineError::Bad) => return Err(ReadError::BadLine { line: number }),
             Err(LineError::NoMemory) => return Err(ReadError::NoMemory),
-        };
+        }
         number += 1;
         rest = more;
     }
-    match stage {
-        Stage::Complete(script) => Ok(script),
-        Stage::Columns(_, _) => Err(ReadError::BadLine { line: number }),
-    }
+    progress.script(number)
 }

@@ -1,8 +1,8 @@
 // What the bytes of a token are.
 ghost use Rattle.std.specs.Prelude.{◌≡◌, true, false, Some, IfSome, IfNone};
+ghost use Rattle.std.specs.Char.{is_ascii_graphic};
 ghost use Rattle.std.specs.List.{list_all};
 ghost use Rattle.std.specs.Str.{IsUtf8, bytes_eq};
-ghost use Rattle.col_text.specs.Parts.{is_graphic};
 ghost use Rattle.col_text.specs.Reading.{Reads};
 
 use crate::line_error::LineError;
@@ -18,16 +18,16 @@ pub(crate) fn is_word(token: &[u8], word: &str) -> bool
 
 /// Whether all bytes of the token are visible ones of ASCII.
 pub(crate) fn are_graphic(token: &[u8]) -> bool
-    ensures graphic { result ≡ list_all is_graphic token.now }
+    ensures graphic { result ≡ list_all is_ascii_graphic token.now }
 {
-    token.iter().all(|byte| b'!' <= *byte && *byte <= b'~')
+    token.iter().all(u8::is_ascii_graphic)
 }
 
 /// The token as a text, where all its bytes are visible ones of ASCII.
 pub(crate) fn graphic_text(token: &[u8]) -> Option<&str>
-    ensures graphic { IfSome result (λ text. list_all is_graphic token.now ≡ true) }
+    ensures graphic { IfSome result (λ text. list_all is_ascii_graphic token.now ≡ true) }
     ensures same { IfSome result (λ text. text.now ≡ token.now) }
-    ensures none { IfNone result (list_all is_graphic token.now ≡ false) }
+    ensures none { IfNone result (list_all is_ascii_graphic token.now ≡ false) }
 {
     if !are_graphic(token) {
         return None;

@@ -8,16 +8,13 @@ ghost use Rattle.col_text.specs.Zone.{is_zone_byte, is_zone_name, zone_line};
 use crate::line_error::LineError;
 use crate::words::shared_text;
 use col_token::first_token;
-use col_types::PlSmallStr;
+use col_types::{MAX_ZONE_BYTES, PlSmallStr};
 use std::alloc::Global;
-
-// A zone has room for so many bytes.
-const LONGEST_ZONE: usize = 64;
 
 fn is_zone_byte(byte: u8) -> bool
     ensures value { result ≡ is_zone_byte byte }
 {
-    matches!(byte, b'0'..=b'9' | b'A'..=b'Z' | b'a'..=b'z' | b'/' | b'_' | b'+' | b'-' | b':')
+    byte.is_ascii_alphanumeric() || matches!(byte, b'/' | b'_' | b'+' | b'-' | b':')
 }
 
 fn are_zone_bytes(token: &[u8]) -> bool
@@ -29,7 +26,7 @@ fn are_zone_bytes(token: &[u8]) -> bool
 fn is_zone_name(token: &[u8]) -> bool
     ensures name { result ≡ is_zone_name token.now }
 {
-    !token.is_empty() && token.len() <= LONGEST_ZONE && are_zone_bytes(token)
+    !token.is_empty() && token.len() <= MAX_ZONE_BYTES && are_zone_bytes(token)
 }
 
 fn zone_of(alloc: Global, name: &[u8]) -> Result<PlSmallStr, LineError>

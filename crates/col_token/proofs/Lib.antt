@@ -4,3 +4,4 @@ pub mod WordLemmas
 pub mod KnownValues
 pub mod PlaceLemmas
 pub mod StandLemmas
+pub mod LawLemmas

@@ -1,3 +1,4 @@
 pub mod Lines
 pub mod Tokens
 pub mod Places
+pub mod Laws

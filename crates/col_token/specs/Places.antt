@@ -9,7 +9,8 @@ use Rattle.col_token.specs.Tokens.{is_blank, is_token}
 abbrev pub longest_text : ℕ
 longest_text = 16_777_216
 
--- a token of a text: its bytes, the place of the first one from 0, and the number of its line from 1
+-- a token of a text: its bytes, the place of the first one from 0, and the number of its line
+-- from 1
 pub record PlacedToken : Type 0 where
   pub text : List ℕ
   pub start : ℕ
@@ -37,7 +38,8 @@ placed_words start line bytes = placed_pieces start line (slice_split is_blank b
 abbrev pub placed_lines : ℕ → ℕ → List (List ℕ) → List PlacedToken
 placed_lines start number [] = []
 placed_lines start number (line ∷ lines) =
-    placed_words start number (strip_carriage_return line) ++ placed_lines (start + length line + 1) (number + 1) lines
+    placed_words start number (strip_carriage_return line)
+    ++ placed_lines (start + length line + 1) (number + 1) lines
 
 -- the tokens of a text, in order
 abbrev pub placed_tokens : List ℕ → List PlacedToken

@@ -3,9 +3,17 @@ use Rattle.std.specs.Prelude.{ℕ, ◌==◌, Bool, not, ◌||◌, List, [], ◌�
 use Rattle.std.specs.List.{slice_split}
 use Rattle.std.specs.Str.Lines.{strip_carriage_return}
 
+-- the byte of a space
+abbrev pub space : ℕ
+space = 32
+
+-- the byte of a tab
+abbrev pub tab : ℕ
+tab = 9
+
 -- whether a byte is a space or a tab
 abbrev pub is_blank : ℕ → Bool
-is_blank byte = byte == 32 || byte == 9
+is_blank byte = byte == space || byte == tab
 
 -- whether a piece between two blanks is a token: only the empty one is none
 abbrev pub is_token : List ℕ → Bool

@@ -50,7 +50,7 @@ impl<'a> Model for Tokens<'a> {
 impl<'a> Tokens<'a> {
     /// A reader before the first token of a text of at most 16_777_216 bytes.
     pub fn new(text: &'a [u8]) -> Tokens<'a>
-        requires { length text.now ≤ longest_text }
+        requires short { length text.now ≤ longest_text }
         ensures tokens { result ≡ placed_tokens text.now }
         ensures places { All (StandsIn text.now) result }
     {
@@ -65,7 +65,8 @@ impl<'a> Tokens<'a> {
 
     /// The next token, in the order of the text, or `None` behind the last one.
     pub fn next(&mut self) -> Option<Token<'a>>
-        ensures first { IfSome result (λ t. self.old ≡ placed_token t.text.now t.start t.line ∷ self.new) }
+        ensures first { IfSome result (λ t.
+            self.old ≡ placed_token t.text.now t.start t.line ∷ self.new) }
         ensures none { IfNone result (self.old ≡ []) }
         ensures ended { IfNone result (self.new ≡ []) }
     {

@@ -16,7 +16,9 @@ fn first_blank(line: &[u8]) -> Option<usize>
     line.iter().position(|byte| is_separator(*byte))
 }
 
-fn skip_blanks(line: &[u8]) -> &[u8]
+/// What follows the blanks at the front of a line.
+#[inline(always)]
+pub fn skip_blanks(line: &[u8]) -> &[u8]
     ensures rest { result.now ≡ without_blanks line.now }
 {
     let mut rest = line;

@@ -1,9 +1,10 @@
 // std's readers and writers as devices that tell no bytes.
-ghost use Rattle.std.specs.Prelude.{◌≡◌, ◌<◌, length, take, None, IfOk};
+ghost use Rattle.std.specs.Prelude.{◌≡◌, ◌<◌, length, take, None, IfOk, OnErr};
 ghost use Rattle.std.specs.Io.{ReadsAtMost, WritesAtMost};
 ghost use Rattle.std.specs.Io.KnownBytes.{Appends, ReadConsumes, WriteAppends};
 ghost use Rattle.col_prog.specs.Adapters.{reader_of, reader_faults, writer_of, writer_faults};
 ghost use Rattle.col_prog.specs.Device.{HasCause, Fits, TakesRoom, faults_after};
+ghost use Rattle.col_prog.specs.Reading.{AppendsFront};
 
 use super::{Failed, Sink, Source};
 use std::io::{Read, Write};
@@ -82,9 +83,10 @@ impl<W: Write> Sink for WriteSink<W> {
     ghost faults = { λ s. s.faults };
 
     /// Takes what the writer takes, and flushes. The count of faults is raised exactly where that
-    /// failed, or where the writer took nothing from a piece that isn't empty.
+    /// failed, or where the writer took nothing from a piece that isn't empty. Where the flush failed,
+    /// the writer has taken a front of the piece.
     fn write(&mut self, piece: &[u8]) -> Result<usize, Failed>
-        requires { Fits None (length piece.now) }
+        requires fits { Fits None (length piece.now) }
         ensures bound { WritesAtMost result piece.now }
         ensures progress { IfOk result (λ count. 0 < length piece.now → 0 < count) }
         ensures bytes { WriteAppends None None result piece.now }
@@ -93,6 +95,10 @@ impl<W: Write> Sink for WriteSink<W> {
         ensures faults { writer_faults self.new ≡ faults_after (writer_faults self.old) result }
         ensures writer { IfOk result (λ count. Appends (W.contents (writer_of self.old))
             (W.contents (writer_of self.new)) (take count piece.now)) }
+
+        // A front of the piece has reached the writer where it failed only when it was flushed.
+        ensures failed { OnErr result (AppendsFront (W.contents (writer_of self.old))
+            (W.contents (writer_of self.new)) piece.now) }
     {
         let count = match self.inner.write(piece) {
             Ok(count) => count,

@@ -3,7 +3,7 @@ ghost use Rattle.std.specs.Prelude.{◌≡◌, ◌<◌, ◌≤◌, ◌+◌, ◌-
 
 // Copies a front of what is left to the front of the piece, and answers how much.
 pub fn copy_front(rest: &[u8], step: usize, piece: &mut [u8]) -> usize
-    requires { 0 < step }
+    requires step { 0 < step }
     ensures count { result ≡ min (min (length rest.now) (length piece.new)) step }
     ensures left { result ≤ length rest.now }
     ensures bound { result ≤ length piece.new }

@@ -40,7 +40,7 @@ impl MemorySource {
     /// A source of the bytes, which gives at most `step` of them a call. A call fails exactly where
     /// its number, from 0, is in `fails`.
     pub fn new(bytes: Vec<u8>, step: usize, fails: Vec<u64>) -> Self
-        requires { 0 < step }
+        requires step { 0 < step }
         ensures fresh { result ≡
             record { left = bytes.items; step = step; calls = no_calls fails.items } }
     {
@@ -113,7 +113,7 @@ impl MemorySink {
     /// A sink that takes at most `step` bytes a call. A call whose number, from 0, is in `fails`
     /// fails. Any other call fails for want of memory alone.
     pub fn new(alloc: Global, step: usize, fails: Vec<u64>) -> Self
-        requires { 0 < step }
+        requires step { 0 < step }
         ensures fresh { result ≡
             record { written = []; step = step; calls = no_calls fails.items } }
     {
@@ -144,7 +144,7 @@ impl Sink for MemorySink {
     /// Takes as much of the piece as a step allows. It fails at the listed calls, and else for want
     /// of memory alone.
     fn write(&mut self, piece: &[u8]) -> Result<usize, Failed>
-        requires { Fits None (length piece.now) }
+        requires fits { Fits None (length piece.now) }
         ensures bound { WritesAtMost result piece.now }
         ensures progress { IfOk result (λ count. 0 < length piece.now → 0 < count) }
         ensures bytes { WriteAppends (Some self.old.written) (Some self.new.written) result piece.now }

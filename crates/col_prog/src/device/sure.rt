@@ -30,7 +30,7 @@ impl Model for SureSource {
 impl SureSource {
     /// A source of the bytes, which gives at most `step` of them a call.
     pub fn new(bytes: Vec<u8>, step: usize) -> Self
-        requires { 0 < step }
+        requires step { 0 < step }
         ensures fresh { result ≡ record { left = bytes.items; step = step } }
     {
         SureSource { bytes, at: 0, step }
@@ -83,7 +83,7 @@ impl Model for SureSink {
 impl SureSink {
     /// A sink that writes over the room, at most `step` bytes a call.
     pub fn new(room: Vec<u8>, step: usize) -> Self
-        requires { 0 < step }
+        requires step { 0 < step }
         ensures fresh { result ≡ record { written = []; room = length room.items; step = step } }
     {
         SureSink { room, at: 0, step }
@@ -106,7 +106,7 @@ impl Sink for SureSink {
 
     /// Takes as much of the piece as a step allows.
     fn write(&mut self, piece: &[u8]) -> Result<usize, Failed>
-        requires { Fits (Some self.old.room) (length piece.now) }
+        requires fits { Fits (Some self.old.room) (length piece.now) }
         ensures bound { WritesAtMost result piece.now }
         ensures progress { IfOk result (λ count. 0 < length piece.now → 0 < count) }
         ensures bytes { WriteAppends (Some self.old.written) (Some self.new.written) result piece.now }

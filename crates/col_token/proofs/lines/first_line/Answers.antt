@@ -6,4 +6,4 @@ pub returns-in-Some-clause-cut : goal.returns-in-Some-clause-cut
 returns-in-Some-clause-cut c = lines_of-found c.args.text.now c.in-Some.end (sym c.in-Some.ensures.place)
 
 pub returns-in-None-clause-cut : goal.returns-in-None-clause-cut
-returns-in-None-clause-cut c = lines_of-absent c.args.text.now c.requires (sym c.in-None.ensures.place)
+returns-in-None-clause-cut c = lines_of-absent c.args.text.now c.requires.filled (sym c.in-None.ensures.place)
