@@ -14,6 +14,7 @@ ghost use Rattle.col_model.specs.CastTable.{day_of, time_of};
 use col_types::{CastOptions, NANOS_PER_DAY, TimeUnit};
 
 const MICROS_PER_DAY: i64 = NANOS_PER_DAY / 1_000;
+
 const MILLIS_PER_DAY: i64 = NANOS_PER_DAY / 1_000_000;
 
 /// How one unit stands to another.
