@@ -22,3 +22,4 @@ pub mod Words
 pub mod Items
 pub mod IntervalRoom
 pub mod RuleIntervals
+pub mod RuleLaws
