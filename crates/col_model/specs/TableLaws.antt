@@ -137,7 +137,7 @@ pub record KnownUnitChanges : Type 0 where
   pub length_truncated :
       changed_at (Duration Nanoseconds) Milliseconds (negsuc 1999998) ≡ Some (Some (negsuc 0))
   pub same_unit :
-    changed_at (Duration Microseconds) Microseconds (negsuc 4) ≡ Some (Some (negsuc 4))
+      changed_at (Duration Microseconds) Microseconds (negsuc 4) ≡ Some (Some (negsuc 4))
   pub zone_kept :
       option_map (λ (rule : OperatorRule). rule.dtype)
       (unit_change_rule (Datetime Nanoseconds (Some (codes "UTC"))) Milliseconds)

@@ -4,7 +4,7 @@
 mod laws;
 mod ticks;
 
-pub use col_types::{CastOptions, TimeUnit};
+pub use col_types::{CastOptions, TimeUnit, get_time_units};
 pub use laws::{
     divisions_by_positive, divisions_round_down, divisions_truncate, finer_and_back,
     floor_rounds_down, intervals_hold, known_casts, known_datetimes, known_durations, known_ends,
