@@ -143,13 +143,13 @@ numbers_of_both first second node op l r at next =
     ∙ ap (λ n. Join n (numbers_from first l) (numbers_from second r)) (sym next)
 
 -- two operands that are found, where the nodes are numbered from `first` on
-pub binary_found : (inputs : List Column) (first second node : ℕ) (op : BinOp) (l r : Tree)
+pub found_binary_from : (inputs : List Column) (first second node : ℕ) (op : BinOp) (l r : Tree)
     (c d : Column) (answer : Result Chunked EvalError) → second ≡ first + node_count l →
     node ≡ second + node_count r → IsFine inputs (numbers_from first l) l c →
     IsFine inputs (numbers_from second r) r d →
     GivesBy column_of answer (numbered node (binary_of op c d)) →
     IsFound inputs (numbers_from first (Binary op l r)) (Binary op l r) answer
-binary_found inputs first second node op l r c d answer at next left right gives =
+found_binary_from inputs first second node op l r c d answer at next left right gives =
     let P : Numbers → Type 0 = λ numbers. IsFound inputs numbers (Binary op l r) answer in
     subst P (sym (numbers_of_both first second node op l r at next))
     (found_binary inputs (Join node (numbers_from first l) (numbers_from second r)) op l r c d

@@ -289,11 +289,11 @@ numbers_of_over first node (operations.Shift periods) e at =
     ap (λ n. Over n (numbers_from first e)) (sym at)
 
 -- the same, where the nodes are numbered from `first` on
-pub unary_found : (inputs : List Column) (first node : ℕ) (op : UnaryOp) (e : Tree) (c : Column)
+pub found_unary_from : (inputs : List Column) (first node : ℕ) (op : UnaryOp) (e : Tree) (c : Column)
     (answer : Result Chunked EvalError) → node ≡ first + node_count e →
     IsFine inputs (numbers_from first e) e c → GivesBy column_of answer (unary_at node op c) →
     IsFound inputs (numbers_from first (over op e)) (over op e) answer
-unary_found inputs first node op e c answer at operand gives =
+found_unary_from inputs first node op e c answer at operand gives =
     let P : Numbers → Type 0 = λ numbers. IsFound inputs numbers (over op e) answer in
     subst P (sym (numbers_of_over first node op e at))
     (found_unary inputs (Over node (numbers_from first e)) op e c answer operand gives)
