@@ -1,3 +1,8 @@
 pub mod ChainLemmas
+pub mod TableLemmas
 pub mod UnitLemmas
 pub mod WrapLemmas
+pub mod WithinLemmas
+pub mod DivisionLemmas
+pub mod WordLemmas
+pub mod IntervalLemmas

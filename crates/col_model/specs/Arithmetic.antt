@@ -1,5 +1,7 @@
 -- Arithmetic on integers without bound, and what a word of fixed width keeps of it.
-use Rattle.std.specs.Prelude.{zero, suc, ◌^◌, ◌-◌, ◌/◌, ◌-ℤ◌, ◌*ℤ◌, ℕ, ℤ, pos, negsuc, neg_ℤ, Bool, ◌&&◌, Option, Some, None, int_div, int_le, nat_lt, unwrap_or, if◌then◌else◌}
+use Rattle.std.specs.Prelude.{zero, suc, ◌^◌, ◌-◌, ◌/◌, ◌-ℤ◌, ◌*ℤ◌, ℕ, ℤ, pos, negsuc, neg_ℤ, Bool}
+use Rattle.std.specs.Prelude.{◌&&◌, Option, Some, None, int_div, int_le, nat_lt, unwrap_or}
+use Rattle.std.specs.Prelude.{if◌then◌else◌}
 use Rattle.std.specs.Int.{Width}
 use Rattle.num_traits.specs.Laws.{bit_len, wrap_signed, wrap_unsigned}
 use Rattle.col_types.specs.DataType.{max_digits}
@@ -27,7 +29,8 @@ word_bits (Unsigned w) = bit_len w
 
 -- the integers that the word holds
 abbrev pub word_values : WordType → Interval
-word_values (Signed w) = record { low = neg_ℤ (pos (2 ^ (bit_len w - 1))); high = pos (2 ^ (bit_len w - 1) - 1) }
+word_values (Signed w) =
+    record { low = neg_ℤ (pos (2 ^ (bit_len w - 1))); high = pos (2 ^ (bit_len w - 1) - 1) }
 word_values (Unsigned w) = record { low = pos 0; high = pos (2 ^ bit_len w - 1) }
 
 -- the integer, or null where the interval doesn't have it

@@ -14,3 +14,6 @@ pub mod ColumnCalls
 pub mod OperatorCalls
 pub mod Laws
 pub mod UnitLaws
+pub mod TableLaws
+pub mod KnownWords
+pub mod IntervalLaws
