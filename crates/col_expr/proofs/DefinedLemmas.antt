@@ -1,8 +1,7 @@
 -- What is defined where no node is refused, and at the least refused node.
 use Rattle.std.proofs.Common.{◌≡◌, ℕ, ◌+◌, ℤ, Bool, true, false, List, [], ◌∷◌, ◌++◌, length, Option, Some, None, refl, sym, ap, ◌∙◌, arith, append_assoc, length-append, slice_get}
-use Rattle.std.specs.Prelude.{if◌then◌else◌, is_some}
+use Rattle.std.specs.Prelude.{is_some}
 use Rattle.std.specs.Option.{option_map, option_or}
-use Rattle.std.proofs.lemmas.List.{append-nil}
 use Rattle.col_types.specs.DataType.{is_expression_target}
 use Rattle.col_types.specs.declared.data_type.DataType.{DataType}
 use Rattle.col_types.specs.declared.cast_options.CastOptions.{CastOptions}
@@ -13,8 +12,8 @@ use Rattle.col_model.specs.OperatorTable.{OperatorRule}
 use Rattle.col_expr.specs.declared.error.EvalError.{EvalError}
 use Rattle.col_expr.specs.declared.error.EvalError.TheVariants as refusals
 use Rattle.col_expr.specs.Tree.{Tree, Input, Cast, Binary, ScalarRight, ScalarLeft, InUnit, Shift, node_count}
-use Rattle.col_expr.specs.Numbers.{Numbers, One, number_at, below, left_of, right_of, numbers_from}
-use Rattle.col_expr.specs.Meaning.{dtype_of, rows_of, row_count, slots_of, cast_dtype, rule_dtype, operator_rule_for, scalar_right_rule_for, scalar_left_rule_for, unit_change_rule_for, broadcast_length_for, is_scalar_for}
+use Rattle.col_expr.specs.Numbers.{Numbers, number_at, below, left_of, right_of, numbers_from}
+use Rattle.col_expr.specs.Meaning.{dtype_of, rows_of, row_count, slots_of, cast_dtype, rule_dtype, operator_rule_for, scalar_right_rule_for, scalar_left_rule_for, unit_change_rule_for, broadcast_length_for}
 use Rattle.col_expr.specs.Refusal.{cast_refusal_at, unsupported_at, scalar_refusal_at, binary_refusal_at, refusal_at, first_refusal}
 use Rattle.col_expr.specs.Laws.{subtrees, first_of, IsDefined, HasDefinedOperands, IsLeastRefused}
 use Rattle.col_expr.proofs.NodeLemmas.{no_input}
