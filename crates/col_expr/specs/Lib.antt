@@ -8,3 +8,6 @@ pub mod Built
 pub mod Node
 pub mod Found
 pub mod Laws
+pub mod Plan
+pub mod FoundPlan
+pub mod PlanLaws

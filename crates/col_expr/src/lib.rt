@@ -1,26 +1,32 @@
 //! Expressions over columns: building one, and evaluating it.
 #![tactic(auto)]
 
+mod check;
 mod error;
 mod evaluation;
 mod expr;
 mod inputs;
+mod interval;
 mod laws;
 mod node;
 mod operations;
+mod plan;
 mod steps;
 #[cfg(test)]
 mod tests;
 
 pub use col_series::{CastOptions, DataType, Series, TimeUnit, TimeZone};
 pub use col_types::{BinOp, ScalarOp};
+pub use check::check_plan;
 pub use error::{EvalError, ExprCause, ExprRefused};
 pub use evaluation::evaluate;
 pub use expr::Expr;
 pub use inputs::Inputs;
+pub use interval::Interval;
 pub use laws::{
     defined_up_to_the_first_refusal, one_tree_fits, refusals_in_postfix_order,
     refusals_name_their_node,
 };
 pub use node::UnaryOp;
+pub use plan::RangePlan;
 pub use steps::Steps;

@@ -14,3 +14,4 @@ pub mod ColumnCalls
 pub mod OperatorCalls
 pub mod Laws
 pub mod UnitLaws
+pub mod IntervalLaws

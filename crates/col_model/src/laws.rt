@@ -3,6 +3,9 @@ ghost use Rattle.std.specs.Prelude.{ℕ, ℤ, ◌<◌};
 ghost use Rattle.col_model.specs.Laws.{RoundsDown, RoundsTowardsZero};
 ghost use Rattle.col_types.specs.declared.data_type.DataType.{Duration};
 ghost use Rattle.col_model.specs.Laws.{KnownDatetimes, KnownDurations, KnownCasts, KnownJoins};
+ghost use Rattle.col_model.specs.Arithmetic.{WordType, wrapped_value};
+ghost use Rattle.col_model.specs.IntervalLaws.{DivisionsRoundDown, TruncatesDivisions};
+ghost use Rattle.col_model.specs.IntervalLaws.{DividesByPositive, IsKeptOf, IntervalsHold};
 ghost use Rattle.col_model.specs.UnitLaws.{ComesBack, IsOneCast, is_no_coarser, is_no_finer};
 ghost use Rattle.col_model.specs.UnitLaws.{moments, clock_unit};
 
@@ -49,4 +52,30 @@ pub fn unit_casts_compose()
     ensures finer_lengths { IsOneCast Duration (λ unit. unit) is_no_coarser }
     ensures coarser_moments { IsOneCast moments clock_unit is_no_finer }
     ensures coarser_lengths { IsOneCast Duration (λ unit. unit) is_no_finer }
+{}
+
+/// The quotient rounded down is the greatest integer whose multiple by the divisor doesn't pass
+/// the dividend, seen in the divisor's direction, and the rest lies between 0 and the divisor.
+pub fn divisions_round_down()
+    ensures law { DivisionsRoundDown }
+{}
+
+/// The quotient rounded towards zero turns its sign with either side.
+pub fn divisions_truncate()
+    ensures law { TruncatesDivisions }
+{}
+
+/// The quotients by a positive number are those by an integer.
+pub fn divisions_by_positive()
+    ensures law { (x : ℤ) (k : ℕ) → DividesByPositive x k }
+{}
+
+/// A word keeps an integer of its own, which differs by a multiple of 2 to its width.
+pub fn words_keep()
+    ensures law { (word : WordType) (x : ℤ) → IsKeptOf word x (wrapped_value word x) }
+{}
+
+/// A formula that has an interval loses no value, wraps none, and gives none outside it.
+pub fn intervals_hold()
+    ensures law { IntervalsHold }
 {}

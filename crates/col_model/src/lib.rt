@@ -6,8 +6,9 @@ mod ticks;
 
 pub use col_types::{CastOptions, TimeUnit};
 pub use laws::{
-    finer_and_back, floor_rounds_down, known_casts, known_datetimes, known_durations, known_joins,
-    trunc_rounds_towards_zero, unit_casts_compose,
+    divisions_by_positive, divisions_round_down, divisions_truncate, finer_and_back,
+    floor_rounds_down, intervals_hold, known_casts, known_datetimes, known_durations, known_joins,
+    trunc_rounds_towards_zero, unit_casts_compose, words_keep,
 };
 pub use ticks::{
     UnitChange, datetime_by, datetime_in_unit, day_in_unit, day_of, duration_by, duration_in_unit,
