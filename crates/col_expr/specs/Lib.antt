@@ -11,3 +11,5 @@ pub mod Laws
 pub mod Plan
 pub mod FoundPlan
 pub mod PlanLaws
+pub mod Folded
+pub mod FoldLaws
