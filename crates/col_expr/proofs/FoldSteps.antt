@@ -32,7 +32,7 @@ use Rattle.col_expr.proofs.FoldFacts.{Facts, cast_facts, slots_by_facts, row_cou
 
 -- ---- the ways of two units
 
-finer_way : (u v : TimeUnit) (m : ℕ) → unit_change u v ≡ Finer m →
+pub finer_way : (u v : TimeUnit) (m : ℕ) → unit_change u v ≡ Finer m →
     nanos_per_tick v < nanos_per_tick u
 finer_way u v m h =
     by_tests (nat_lt (nanos_per_tick v) (nanos_per_tick u))
@@ -58,7 +58,7 @@ coarser_way u v m h =
     by_tests false true n k e h = grind (arith, nat_tests)
     by_tests false false n k e h = cc
 
-no_coarser : (u v : TimeUnit) → nanos_per_tick v < nanos_per_tick u → is_no_coarser u v ≡ true
+pub no_coarser : (u v : TimeUnit) → nanos_per_tick v < nanos_per_tick u → is_no_coarser u v ≡ true
 no_coarser u v h = grind (arith, nat_tests)
 
 no_finer : (u v : TimeUnit) → nanos_per_tick u < nanos_per_tick v → is_no_finer u v ≡ true
@@ -82,10 +82,10 @@ null_slot : (rule : Option CastRule) → cast_slot rule None ≡ None
 null_slot None = refl
 null_slot (Some rule) = refl
 
-some_is : {A : Type 0} (x y : A) → Some x ≡ Some y → x ≡ y
+pub some_is : {A : Type 0} (x y : A) → Some x ≡ Some y → x ≡ y
 some_is x y h = cc
 
-null_cast : (a b : DataType) → slot_cast a b None ≡ None
+pub null_cast : (a b : DataType) → slot_cast a b None ≡ None
 null_cast a b = null_slot (cast_rule a b NonStrict)
 
 -- a slot that stays valid, or was null
@@ -93,7 +93,7 @@ abbrev pub StaysValid : (Option Value → Option Value) → Option Value → Typ
 StaysValid f slot = (is_some slot && is_none (f slot)) ≡ false
 
 -- a function of slots loses none of a list where it loses none of its slots
-none_lost : (f : Option Value → Option Value) (g : ℕ → Option Value) (n : ℕ) (rows : List ℕ) →
+pub none_lost : (f : Option Value → Option Value) (g : ℕ → Option Value) (n : ℕ) (rows : List ℕ) →
     ((row : ℕ) → StaysValid f (g row)) → first_lost f n (map g rows) ≡ None
 none_lost f g n [] stays = refl
 none_lost f g n (row ∷ rows) stays =
@@ -146,13 +146,13 @@ if_rising : (b : Bool) (f g : Formula) →
 if_rising true f g = refl
 if_rising false f g = refl
 
-record UnitRule (a b : DataType) : Type 0 where
-  formula : Formula
-  rule : cast_rule a b NonStrict ≡ rising formula
-  settled : resolved_target a b ≡ b
-  shape : shape_of b ≡ b
+pub record UnitRule (a b : DataType) : Type 0 where
+  pub formula : Formula
+  pub rule : cast_rule a b NonStrict ≡ rising formula
+  pub settled : resolved_target a b ≡ b
+  pub shape : shape_of b ≡ b
 
-unit_rule : (a b : DataType) (s : UnitChange) → unit_step a b ≡ Some s → UnitRule a b
+pub unit_rule : (a b : DataType) (s : UnitChange) → unit_step a b ≡ Some s → UnitRule a b
 unit_rule (Datetime u x) (Datetime v y) s h = record {
   formula = if same_type (Datetime u x) (Datetime v y) then X else datetime_in_unit u v X;
   rule = if_rising (same_type (Datetime u x) (Datetime v y)) X (datetime_in_unit u v X);
@@ -167,7 +167,7 @@ unit_rule (Duration u) (Duration v) s h = record {
 }
 unit_rule a b s h = cc
 
-own_shape : (a b : DataType) (s : UnitChange) → unit_step a b ≡ Some s → shape_of a ≡ a
+pub own_shape : (a b : DataType) (s : UnitChange) → unit_step a b ≡ Some s → shape_of a ≡ a
 own_shape (Datetime u x) (Datetime v y) s h = refl
 own_shape (Duration u) (Duration v) s h = refl
 own_shape a b s h = cc
@@ -259,6 +259,11 @@ step_is f options target s h = by_dtype f.dtype refl
     by_dtype None e = cc (rw e at h)
     by_dtype (Some from) e =
         by_good options from (is_expression_target target) e refl (rw e at h)
+
+-- a cast that is a step has its change of unit
+pub step_told : (f : Facts) (options : CastOptions) (target : DataType) (s : UnitChange) →
+    IsStep f options target s → unit_step_for options f.dtype target ≡ Some s
+step_told f options target s step = rw (step.typed, step.free, step.good) step.pair
 
 -- ---- two steps that go on
 
