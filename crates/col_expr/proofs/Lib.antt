@@ -5,3 +5,5 @@ pub mod NodeLemmas
 pub mod UnaryLemmas
 pub mod BinaryLemmas
 pub mod InputsLemmas
+pub mod DefinedLemmas
+pub mod CauseLemmas

@@ -6,14 +6,16 @@ use Rattle.std.proofs.lemmas.Bool.Decides.{nat_tests}
 use Rattle.std.proofs.lemmas.Option.{slice_get_within, slice_get_cases}
 use Rattle.col_types.specs.declared.error.PolarsError.{PolarsError}
 use Rattle.col_model.specs.Column.{Column}
+use Rattle.col_model.specs.Chunked.{Chunked, column_of}
 use Rattle.col_model.specs.Broadcast.{column_slots}
 use Rattle.col_model.specs.OperatorCalls.{slot_in}
 use Rattle.col_expr.specs.declared.error.EvalError.{EvalError}
 use Rattle.col_expr.specs.declared.error.EvalError.TheVariants as refusals
 use Rattle.col_expr.specs.Tree.{Tree, Input}
-use Rattle.col_expr.specs.Meaning.{row_count, slot_at, input_slot, step_count}
-use Rattle.col_expr.specs.Refusal.{at_node, first_refusal, Unless, Gives}
-use Rattle.col_expr.specs.Found.{IsColumnOf, IsFineBy, IsFound, IsFoundBy, numbered}
+use Rattle.col_expr.specs.Numbers.{Numbers, One}
+use Rattle.col_expr.specs.Meaning.{row_count, slot_at, slots_of, input_slot, step_count}
+use Rattle.col_expr.specs.Refusal.{at_node, first_refusal, Unless, Gives, GivesBy}
+use Rattle.col_expr.specs.Found.{IsColumnOf, IsFine, IsFineBy, IsFound, IsFoundBy, numbered}
 use Rattle.col_expr.proofs.Slots.{column_slots-own, get_or-column_slots}
 
 -- from one fact that is owed to another
@@ -33,19 +35,34 @@ IsDueBy inputs refused t (Err error) = refused ≡ Some error
 
 -- the answer that is due is found
 pub found_due : (inputs : List Column) (refused : Option EvalError) (t : Tree)
-    (due answer : Result Column EvalError) → IsDueBy inputs refused t due → Gives answer due →
-    IsFoundBy inputs refused t answer
+    (due : Result Column EvalError) (answer : Result Chunked EvalError) →
+    IsDueBy inputs refused t due → GivesBy column_of answer due → IsFoundBy inputs refused t answer
 found_due inputs refused t (Ok column) (Ok x) is gives =
-    let at : column ≡ x = cc in
+    let at : column ≡ column_of x = cc in
     let P : Column → Type 0 = λ c. IsFineBy inputs refused t c in subst P at is
 found_due inputs refused t (Ok column) (Err error) is gives = Unless-map error (λ h. cc) gives
 found_due inputs refused t (Err e) (Ok x) is gives = cc
 found_due inputs refused t (Err e) (Err error) is gives =
     Unless-map error (λ h. let at : e ≡ error = cc in is ∙ ap Some at) gives
 
+-- the same of an answer that is the column with its chunks
+pub found_whole : (inputs : List Column) (refused : Option EvalError) (t : Tree) (whole : Chunked)
+    (answer : Result Chunked EvalError) → IsFineBy inputs refused t (column_of whole) →
+    Gives answer (Ok whole) → IsFoundBy inputs refused t answer
+found_whole inputs refused t whole (Ok x) is gives =
+    let at : whole ≡ x = cc in
+    let P : Chunked → Type 0 = λ c. IsFineBy inputs refused t (column_of c) in subst P at is
+found_whole inputs refused t whole (Err error) is gives = Unless-map error (λ h. cc) gives
+
 pub row_count-is : (inputs : List Column) (t : Tree) (c : Column) → IsColumnOf inputs t c →
     row_count inputs t ≡ length c.slots
 row_count-is inputs t c is = ap (λ rows. unwrap_or rows 0) is.long
+
+-- a column's slots are the tree's
+pub slots_of-is : (inputs : List Column) (t : Tree) (c : Column) → IsColumnOf inputs t c →
+    slots_of inputs t ≡ c.slots
+slots_of-is inputs t c is =
+    ap (column_slots (slot_at inputs t)) (row_count-is inputs t c is) ∙ sym is.filled
 
 -- a column's slot in a row is the tree's
 pub slot_in-is : (inputs : List Column) (t : Tree) (c : Column) (row : ℕ) →
@@ -78,35 +95,32 @@ column_of_input inputs index c there =
     }
 
 -- an input that is there
-pub found_input : (inputs : List Column) (node index : ℕ) (c : Column)
-    (answer : Result Column EvalError) → slice_get inputs index ≡ Some c →
-    Gives answer (numbered node (Ok c)) → IsFound inputs node (Input index) answer
-found_input inputs node index c answer there gives =
-    found_due inputs (first_refusal inputs node (Input index)) (Input index) (Ok c) answer
-    (record {
+pub found_input : (inputs : List Column) (node index : ℕ) (c : Column) →
+    slice_get inputs index ≡ Some c → IsFine inputs (One node) (Input index) c
+found_input inputs node index c there =
+    record {
       fine = rw (lt-ltb index (length inputs) (slice_get_within inputs index c there)) refl;
       column_is = column_of_input inputs index c there;
-    })
-    gives
+    }
 
 not_below : (xs : List Column) (i : ℕ) → slice_get xs i ≡ None → nat_lt i (length xs) ≡ false
 not_below xs i h = grind (arith, nat_tests, slice_get_cases)
 
 -- an input that is past the end
 pub no_input : (inputs : List Column) (node index : ℕ) → slice_get inputs index ≡ None →
-    first_refusal inputs node (Input index) ≡ Some (refusals.NoColumn node index (length inputs))
+    first_refusal inputs (One node) (Input index) ≡ Some (refusals.NoColumn node index (length inputs))
 no_input inputs node index none =
     ap (λ b. if b then None else Some (refusals.NoColumn node index (length inputs)))
     (not_below inputs index none)
 
 -- the steps of a node, from those below it and the slots of its column
-pub steps_above : (inputs : List Column) (first before mid after below : ℕ) (t : Tree)
-    (answer : Result Column EvalError) → step_count inputs t ≡ below + row_count inputs t →
-    IsFound inputs first t answer → mid ≡ before + below →
-    IfOk answer (λ column. after ≡ mid + length column.slots) →
+pub steps_above : (inputs : List Column) (numbers : Numbers) (before mid after below : ℕ) (t : Tree)
+    (answer : Result Chunked EvalError) → step_count inputs t ≡ below + row_count inputs t →
+    IsFound inputs numbers t answer → mid ≡ before + below →
+    IfOk answer (λ found. after ≡ mid + length found.column.slots) →
     OnOk answer (after ≡ before + step_count inputs t)
-steps_above inputs first before mid after below t (Ok column) all found low high =
-    let rows : row_count inputs t ≡ length column.slots =
-    row_count-is inputs t column found.column_is in
+steps_above inputs numbers before mid after below t (Ok found) all is low high =
+    let rows : row_count inputs t ≡ length found.column.slots =
+    row_count-is inputs t (column_of found) is.column_is in
     omega (arith, all, rows, low, high)
-steps_above inputs first before mid after below t (Err error) all found low high = tt
+steps_above inputs numbers before mid after below t (Err error) all is low high = tt

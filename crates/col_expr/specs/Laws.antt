@@ -1,6 +1,5 @@
 -- Laws that are stated here and proved at the functions that cite them.
 use Rattle.std.specs.Prelude.{◌≡◌, ℕ, ℤ, ◌+◌, Bool, true, false, List, [], ◌∷◌, ◌++◌, length, Option, Some, None, is_some, Result, IfErr}
-use Rattle.std.specs.List.{All}
 use Rattle.std.specs.Option.{option_or}
 use Rattle.col_types.specs.declared.data_type.DataType.{DataType}
 use Rattle.col_types.specs.declared.cast_options.CastOptions.{CastOptions}
@@ -44,23 +43,23 @@ RefusalsInPostfixOrder =
     (inputs : List Column) (first : ℕ) (tree : Tree) →
     first_refusal inputs (numbers_from first tree) tree ≡ first_of inputs first (subtrees tree)
 
--- the operands of a node, the left one first
-abbrev pub operands_of : Tree → List Tree
-operands_of (Input index) = []
-operands_of (Cast operand dtype options) = operand ∷ []
-operands_of (Binary op left right) = left ∷ right ∷ []
-operands_of (ScalarRight operand op value) = operand ∷ []
-operands_of (ScalarLeft value op operand) = operand ∷ []
-operands_of (InUnit operand unit) = operand ∷ []
-operands_of (Shift operand periods) = operand ∷ []
-
 -- the name, the type and the rows of a node are defined, and so each slot below its rows
 pub record IsDefined (inputs : List Column) (tree : Tree) : Type 0 where
   pub named : is_some (name_of inputs tree) ≡ true
   pub typed : is_some (dtype_of inputs tree) ≡ true
   pub long : is_some (rows_of inputs tree) ≡ true
 
--- a node of which no node below it is refused, nor the node itself, is defined
+-- the operands of a node are defined
+abbrev pub HasDefinedOperands : List Column → Tree → Type 0
+HasDefinedOperands inputs (Input index) = Unit {0}
+HasDefinedOperands inputs (Cast operand target options) = IsDefined inputs operand
+HasDefinedOperands inputs (Binary op left right) = IsDefined inputs left × IsDefined inputs right
+HasDefinedOperands inputs (ScalarRight operand op k) = IsDefined inputs operand
+HasDefinedOperands inputs (ScalarLeft k op operand) = IsDefined inputs operand
+HasDefinedOperands inputs (InUnit operand unit) = IsDefined inputs operand
+HasDefinedOperands inputs (Shift operand periods) = IsDefined inputs operand
+
+-- where neither a node nor one below it is refused, the node is defined
 abbrev pub DefinedWhereNotRefused : Type 0
 DefinedWhereNotRefused =
     (inputs : List Column) (numbers : Numbers) (tree : Tree) →
@@ -75,7 +74,7 @@ pub record IsLeastRefused (inputs : List Column) (first : ℕ) (tree : Tree) (er
   pub stands : subtrees tree ≡ before ++ node ∷ after
   pub none_before : first_of inputs first before ≡ None
   pub refused : refusal_at inputs (first + length before) node ≡ Some error
-  pub defined : All (IsDefined inputs) (operands_of node)
+  pub defined : HasDefinedOperands inputs node
 
 -- the first refusal is that of the least refused node, whose operands are defined
 abbrev pub LeastRefusedNode : Type 0

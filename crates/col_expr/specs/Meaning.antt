@@ -1,6 +1,7 @@
 -- The name, the type, the rows and each slot of a node, over the columns of an expression.
-use Rattle.std.specs.Prelude.{ℕ, ℤ, ◌+◌, Bool, false, List, [], length, Option, Some, None, result_ok, slice_get, slice_index_or, unwrap_or, if◌then◌else◌}
+use Rattle.std.specs.Prelude.{ℕ, ℤ, ◌+◌, Bool, false, List, [], length, Option, Some, None, slice_get, slice_index_or, unwrap_or, if◌then◌else◌}
 use Rattle.std.specs.Option.{option_map, option_and_then}
+use Rattle.std.specs.Result.{result_ok}
 use Rattle.col_types.specs.DataType.{is_expression_target}
 use Rattle.col_types.specs.declared.data_type.DataType.{DataType, Boolean}
 use Rattle.col_types.specs.declared.cast_options.CastOptions.{CastOptions}

@@ -1,19 +1,19 @@
 // Evaluating an expression.
-ghost use Rattle.std.specs.Prelude.{◌≡◌, ◌+◌, ◌≤◌, ◌<◌, true, OnOk, IfOk, length};
+ghost use Rattle.std.specs.Prelude.{◌≡◌, ◌+◌, ◌≤◌, ◌<◌, true, Ok, OnOk, IfOk, length};
 ghost use Rattle.col_model.specs.Chunked.{column_of, columns_of};
 ghost use Rattle.col_expr.specs.Tree.{node_count, Input, max_nodes};
 ghost use Rattle.col_expr.specs.Numbers.{One, numbers_from};
 ghost use Rattle.col_expr.specs.Built.{is_built_tree};
 ghost use Rattle.col_expr.specs.Node.{node_tree};
 ghost use Rattle.col_expr.specs.Meaning.{step_count};
-ghost use Rattle.col_expr.specs.Refusal.{GivesBy, outcome};
+ghost use Rattle.col_expr.specs.Refusal.{Gives, GivesBy, outcome};
 ghost use Rattle.col_expr.specs.Found.{IsFound};
 
 use crate::error::EvalError;
 use crate::expr::Expr;
 use crate::inputs::Inputs;
 use crate::node::Node;
-use crate::operations::{at_node, binary_column, unary_column};
+use crate::operations::{binary_column, unary_column};
 use crate::steps::Steps;
 use col_series::Series;
 use std::alloc::Global;
@@ -102,11 +102,21 @@ fn input_column(alloc: Global, inputs: &Inputs, index: u32, node: u32) -> Result
     ensures found { IsFound (columns_of inputs.now) (One node) (Input index) result }
 {
     match inputs.get(index) {
-        Some(column) => at_node(column.try_clone(alloc), node),
+        Some(column) => cloned(alloc, column),
         None => Err(EvalError::NoColumn {
             node,
             index,
             count: inputs.len(),
         }),
+    }
+}
+
+// A clone is refused for want of memory alone.
+fn cloned(alloc: Global, column: &Series) -> Result<Series, EvalError>
+    ensures column { Gives result (Ok column.now) }
+{
+    match column.try_clone(alloc) {
+        Ok(column) => Ok(column),
+        Err(_) => Err(EvalError::NoMemory),
     }
 }

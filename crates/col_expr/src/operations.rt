@@ -79,7 +79,7 @@ fn cast_column(
 
 // A column's answer as that of a node. No call of one column is refused for lengths, and none of a
 // node for the causes of the last line.
-pub(crate) fn at_node(answer: PolarsResult<Series>, node: u32) -> Result<Series, EvalError>
+fn at_node(answer: PolarsResult<Series>, node: u32) -> Result<Series, EvalError>
     ensures answer { (expected : Result Column PolarsError) →
         column_calls.GivesBy column_of answer expected →
         GivesBy column_of result (numbered node expected) }

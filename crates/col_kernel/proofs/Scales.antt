@@ -6,7 +6,8 @@ use Rattle.std.proofs.Math.Nat.{pow-le-pow_right, one-le-pow, div-one}
 use Rattle.std.proofs.Math.Dec.{leb, leb-zero}
 use Rattle.std.proofs.lemmas.Bool.{and_from, and_parts, cases_Bool, leb-true, le-leb, le-ltb, lt-ltb}
 use Rattle.std.proofs.lemmas.Int.{ints, fits_signed_from_abs, to_z-of_z, quot_fits}
-use Rattle.col_model.specs.Arithmetic.{Interval, is_within, decimal_values, fitting_decimal, max_digits, rescaled_value, trunc_by}
+use Rattle.col_types.specs.DataType.{max_digits}
+use Rattle.col_model.specs.Arithmetic.{Interval, is_within, decimal_values, fitting_decimal, rescaled_value, trunc_by}
 
 ten-below : (k : ℕ) → k ≤ 38 → 10 ^ k < 2 ^ 127
 ten-below k h = lt_of_le_of_lt (pow-le-pow_right {n = 10} (omega arith) h) (lit< tt)

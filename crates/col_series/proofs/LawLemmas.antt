@@ -4,32 +4,27 @@ use Rattle.std.specs.List.{list_all}
 use Rattle.std.proofs.lemmas.Bool.{and_parts, false≢true, leb-true}
 use Rattle.std.proofs.lemmas.Int.{ints}
 use Rattle.col_types.specs.declared.data_type.DataType.{DataType, Time}
-use Rattle.col_types.specs.declared.time_unit.TimeUnit.{TimeUnit}
-use Rattle.col_types.specs.declared.time_unit.TimeUnit.TheVariants.{Nanoseconds, Microseconds, Milliseconds}
+use Rattle.col_types.proofs.TypeLemmas.{same_type-itself}
 use Rattle.col_types.specs.declared.cast_options.CastOptions.{CastOptions}
 use Rattle.col_types.specs.declared.cast_options.CastOptions.TheVariants.{Strict, NonStrict, Overflowing}
-use Rattle.col_model.specs.declared.ticks.UnitChange.TheVariants.{Same}
 use Rattle.col_model.specs.Arithmetic.{Interval, is_within}
 use Rattle.col_model.specs.Value.{Value, Flat, Nested, Whole, Bytes}
 use Rattle.col_model.specs.Formula.{X}
-use Rattle.col_model.specs.UnitChange.{unit_change}
 use Rattle.col_model.specs.Column.{Column, IsValidColumn, is_built_type, is_value_in, is_slot_of, values_of, day_values}
-use Rattle.col_model.specs.CastTable.{CastRule, cast_rule}
+use Rattle.col_model.specs.CastTable.{CastRule, cast_rule, resolved_target}
 use Rattle.col_model.specs.ColumnCalls.{cast_slot, first_lost, strict_refusal}
 use Rattle.col_series.specs.Laws.{KeepsColumn, IsTimeOfDay, TimesLieInTheDay}
 use Rattle.col_series.proofs.TypeLemmas.{by_built_type, built_good}
 
--- the row that changes nothing
+-- the rule that changes nothing
 abbrev identity : CastRule
 identity = record { formula = X; monotone = true }
 
-same_unit : (unit : TimeUnit) → unit_change unit unit ≡ Same
-same_unit Nanoseconds = refl
-same_unit Microseconds = refl
-same_unit Milliseconds = refl
+own_rule : (options : CastOptions) (dtype : DataType) → cast_rule dtype dtype options ≡ Some identity
+own_rule options dtype = rw (same_type-itself dtype) refl
 
-own_rule : (options : CastOptions) (dtype : DataType) → is_built_type dtype ≡ true → cast_rule dtype dtype options ≡ Some identity
-own_rule options = by_built_type (λ dtype. cast_rule dtype dtype options ≡ Some identity) refl (λ unit name. rw (same_unit unit) refl) (λ unit. rw (same_unit unit) refl) refl
+own_target : (dtype : DataType) → is_built_type dtype ≡ true → resolved_target dtype dtype ≡ dtype
+own_target = by_built_type (λ dtype. resolved_target dtype dtype ≡ dtype) refl (λ unit zone. refl) (λ unit. refl) refl
 
 kept_value : (range : Option Interval) (value : Value) → is_value_in range value ≡ true → cast_slot (Some identity) (Some value) ≡ Some value
 kept_value range (Flat (Whole x)) h = refl
@@ -66,7 +61,7 @@ pub kept_column : (column : Column) (options : CastOptions) → IsValidColumn co
 kept_column column options valid =
     let lost = none_lost column.dtype 0 column.slots valid.values in
     let kept = kept_slots column.dtype column.slots valid.values in
-    rw (built_good column.dtype valid.typed, own_rule options column.dtype valid.typed) (rw (lost, kept) (rw (not_refused options) refl))
+    rw (own_target column.dtype valid.typed) (rw (built_good column.dtype valid.typed, own_rule options column.dtype, own_rule NonStrict column.dtype) (rw (lost, kept) (rw (not_refused options) refl)))
 
 -- ---- times
 

@@ -1,7 +1,7 @@
 pub mod TypeLemmas
 pub mod ColumnLemmas
 pub mod SlotLemmas
-pub mod RowLemmas
+pub mod RuleLemmas
 pub mod CastLemmas
 pub mod UnitLemmas
 pub mod LawLemmas

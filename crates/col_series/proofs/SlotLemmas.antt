@@ -1,7 +1,7 @@
--- Ticks as a column's slots: under a row of a table, and moved.
-use Rattle.std.proofs.Common.{◌≡◌, ◌+◌, ℕ, ℤ, true, false, List, [], ◌∷◌, map, length, get_or, Option, Some, None, refl, ap, sym, is_some, is_none}
-use Rattle.std.specs.List.{list_all, list_any, position_from, range_with_len}
-use Rattle.std.specs.Option.{option_and_then}
+-- Ticks as a column's slots: under a rule of a table, and moved.
+use Rattle.std.proofs.Common.{◌≡◌, ◌+◌, ◌∙◌, ℕ, ℤ, Bool, true, false, cond, List, [], ◌∷◌, map, length, get_or, Option, Some, None, refl, ap, sym, is_some, is_none}
+use Rattle.std.specs.List.{list_all, list_any, range_with_len}
+use Rattle.std.specs.Option.{option_and_then, option_or}
 use Rattle.std.proofs.lemmas.Bool.{and_from, false≢true}
 use Rattle.std.proofs.lemmas.List.{length-map}
 use Rattle.std.proofs.lemmas.List.FromFn.{length-map-range_with_len}
@@ -10,17 +10,16 @@ use Rattle.col_types.specs.declared.data_type.DataType.{DataType}
 use Rattle.col_model.specs.declared.ticks.UnitChange.TheVariants.{Finer, Same, Coarser}
 use Rattle.col_model.specs.Value.{Value, integer_slot, on_slot}
 use Rattle.col_model.specs.Broadcast.{row_before}
-use Rattle.col_model.specs.ColumnCalls.{cast_slot, first_lost}
+use Rattle.col_model.specs.ColumnCalls.{cast_slot}
 use Rattle.col_model.specs.OperatorCalls.{slot_in, shifted}
-use Rattle.col_series.specs.declared.tick_row.TickRow.{TickRow}
-use Rattle.col_series.specs.declared.tick_row.TickRow.TheVariants as rows
-use Rattle.col_series.specs.TickRow.{changed_tick, is_same}
-use Rattle.col_series.specs.CastRow.{rule_of, is_tick_lost}
+use Rattle.col_series.specs.declared.tick_rule.TickRule.{TickRule}
+use Rattle.col_series.specs.declared.tick_rule.TickRule.TheVariants as rules
+use Rattle.col_series.specs.TickRule.{changed_tick, changed_ticks, is_same, lost_at, first_lost_tick}
 use Rattle.col_series.specs.Shift.{tick_before, shifted_ticks}
 use Rattle.col_series.specs.Slots.{is_fit, ticks_column}
 use Rattle.col_series.proofs.TypeLemmas.{fit_at}
 
--- ---- under a row
+-- ---- under a rule
 
 -- a formula on slots is its code on ticks
 pub on_slot-ticks : (f : ℤ → Option ℤ) (ticks : List (Option ℤ)) → map (on_slot f) (map integer_slot ticks) ≡ map integer_slot (map (option_and_then f) ticks)
@@ -34,7 +33,7 @@ any_valid [] = refl
 any_valid (None ∷ ticks) = any_valid ticks
 any_valid (Some x ∷ ticks) = refl
 
--- null slots alone are what no row makes of them
+-- null slots alone are what no rule makes of them
 pub all_null : (ticks : List (Option ℤ)) → list_any is_some ticks ≡ false → map (cast_slot None) (map integer_slot ticks) ≡ map integer_slot ticks
 all_null [] h = refl
 all_null (None ∷ ticks) h = ap (λ (l : List (Option Value)). None ∷ l) (all_null ticks h)
@@ -44,35 +43,47 @@ none_as_slot : (slot : Option ℤ) → is_none (integer_slot slot) ≡ is_none s
 none_as_slot None = refl
 none_as_slot (Some x) = refl
 
--- the first slot that a row loses is the first tick that it loses
-pub first_lost-ticks : (row : TickRow) (ticks : List (Option ℤ)) (at : ℕ) → first_lost (cast_slot (rule_of (Some row))) at (map integer_slot ticks) ≡ position_from (is_tick_lost row) at ticks
-first_lost-ticks row [] at = refl
-first_lost-ticks row (None ∷ ticks) at = first_lost-ticks row ticks (at + 1)
-first_lost-ticks row (Some x ∷ ticks) at = rw (none_as_slot (changed_tick row x), first_lost-ticks row ticks (at + 1)) refl
+-- a tick that becomes null is the first lost one, or the first one of those that follow
+lost_first : (lost : Bool) (row : ℕ) (next : Option ℕ) → option_or (cond lost (Some row) None) next ≡ cond lost (Some row) next
+lost_first true row next = refl
+lost_first false row next = refl
 
-same_tick : (row : TickRow) (x : ℤ) → is_same row ≡ true → changed_tick row x ≡ Some x
-same_tick rows.Same x same = refl
-same_tick (rows.DayStart unit) x same = absurd (false≢true same)
-same_tick (rows.Day unit options) x same = absurd (false≢true same)
-same_tick (rows.Time unit) x same = absurd (false≢true same)
-same_tick (rows.Datetime (Finer factor)) x same = absurd (false≢true same)
-same_tick (rows.Datetime Same) x same = refl
-same_tick (rows.Datetime (Coarser factor)) x same = absurd (false≢true same)
-same_tick (rows.Duration (Finer factor)) x same = absurd (false≢true same)
-same_tick (rows.Duration Same) x same = refl
-same_tick (rows.Duration (Coarser factor)) x same = absurd (false≢true same)
-same_tick (rows.WrappedDatetime (Finer factor)) x same = absurd (false≢true same)
-same_tick (rows.WrappedDatetime Same) x same = refl
-same_tick (rows.WrappedDatetime (Coarser factor)) x same = absurd (false≢true same)
-same_tick (rows.WrappedDuration (Finer factor)) x same = absurd (false≢true same)
-same_tick (rows.WrappedDuration Same) x same = refl
-same_tick (rows.WrappedDuration (Coarser factor)) x same = absurd (false≢true same)
+pub lost_step : (rule : TickRule) (row : ℕ) (tick : Option ℤ) (ticks : List (Option ℤ))
+    → option_or (lost_at row tick (option_and_then (changed_tick rule) tick)) (first_lost_tick rule (row + 1) ticks) ≡ first_lost_tick rule row (tick ∷ ticks)
+lost_step rule row None ticks = refl
+lost_step rule row (Some x) ticks =
+    lost_first (is_none (changed_tick rule x)) row (first_lost_tick rule (row + 1) ticks)
+    ∙ ap (λ lost. cond lost (Some row) (first_lost_tick rule (row + 1) ticks)) (sym (none_as_slot (changed_tick rule x)))
 
--- a row that keeps each tick keeps the list
-pub same_ticks : (row : TickRow) (ticks : List (Option ℤ)) → is_same row ≡ true → map (option_and_then (changed_tick row)) ticks ≡ ticks
-same_ticks row [] same = refl
-same_ticks row (None ∷ ticks) same = ap (λ l. None ∷ l) (same_ticks row ticks same)
-same_ticks row (Some x ∷ ticks) same = rw (same_tick row x same, same_ticks row ticks same) refl
+same_tick : (rule : TickRule) (x : ℤ) → is_same rule ≡ true → changed_tick rule x ≡ Some x
+same_tick rules.Same x same = refl
+same_tick (rules.DayStart day) x same = absurd (false≢true same)
+same_tick (rules.Day day options) x same = absurd (false≢true same)
+same_tick (rules.Time day nanos) x same = absurd (false≢true same)
+same_tick (rules.Datetime (Finer factor)) x same = absurd (false≢true same)
+same_tick (rules.Datetime Same) x same = refl
+same_tick (rules.Datetime (Coarser factor)) x same = absurd (false≢true same)
+same_tick (rules.Duration (Finer factor)) x same = absurd (false≢true same)
+same_tick (rules.Duration Same) x same = refl
+same_tick (rules.Duration (Coarser factor)) x same = absurd (false≢true same)
+same_tick (rules.WrappedDatetime (Finer factor)) x same = absurd (false≢true same)
+same_tick (rules.WrappedDatetime Same) x same = refl
+same_tick (rules.WrappedDatetime (Coarser factor)) x same = absurd (false≢true same)
+same_tick (rules.WrappedDuration (Finer factor)) x same = absurd (false≢true same)
+same_tick (rules.WrappedDuration Same) x same = refl
+same_tick (rules.WrappedDuration (Coarser factor)) x same = absurd (false≢true same)
+
+-- a rule that keeps each tick keeps the list
+pub same_ticks : (rule : TickRule) (ticks : List (Option ℤ)) → is_same rule ≡ true → changed_ticks rule ticks ≡ ticks
+same_ticks rule [] same = refl
+same_ticks rule (None ∷ ticks) same = ap (λ l. None ∷ l) (same_ticks rule ticks same)
+same_ticks rule (Some x ∷ ticks) same = rw (same_tick rule x same, same_ticks rule ticks same) refl
+
+-- and loses none
+pub same_lost : (rule : TickRule) (row : ℕ) (ticks : List (Option ℤ)) → is_same rule ≡ true → first_lost_tick rule row ticks ≡ None
+same_lost rule row [] same = refl
+same_lost rule row (None ∷ ticks) same = same_lost rule (row + 1) ticks same
+same_lost rule row (Some x ∷ ticks) same = rw (same_tick rule x same) (same_lost rule (row + 1) ticks same)
 
 -- ---- moved
 

@@ -63,10 +63,10 @@ built_good dtype h = cc
 
 -- ---- words
 
-within-pos : (n : ℕ) → n < 2 ^ 63 → is_within (word_values (Signed w64)) (pos n) ≡ true
+pub within-pos : (n : ℕ) → n < 2 ^ 63 → is_within (word_values (Signed w64)) (pos n) ≡ true
 within-pos n h = le-leb n (2 ^ 63 - 1) (omega arith)
 
-within-negsuc : (n : ℕ) → n < 2 ^ 63 → is_within (word_values (Signed w64)) (negsuc n) ≡ true
+pub within-negsuc : (n : ℕ) → n < 2 ^ 63 → is_within (word_values (Signed w64)) (negsuc n) ≡ true
 within-negsuc n h = and_from _ _ (le-leb n (2 ^ 63 - 1) (omega arith)) refl
 
 -- 64 bits hold what 32 hold

@@ -1,6 +1,5 @@
 pub mod Seen
 pub mod Slots
-pub mod TickRow
-pub mod CastRow
+pub mod TickRule
 pub mod Shift
 pub mod Laws

@@ -8,12 +8,13 @@ use Rattle.col_types.specs.declared.error.PolarsError.{PolarsError}
 use Rattle.col_model.specs.Arithmetic.{is_within, Signed, word_values}
 use Rattle.col_model.specs.Value.{Value, integer_slot}
 use Rattle.col_model.specs.Column.{Column, is_slot_of}
-use Rattle.col_model.specs.CastTable.{CastRule, cast_rule}
+use Rattle.col_model.specs.CastTable.{CastRule}
 use Rattle.col_model.specs.ColumnCalls.{unless_refused, cast_refusal, cast_slot}
 
 -- the column of ticks, with no claim on their order
 abbrev pub ticks_column : List ℕ → DataType → List (Option ℤ) → Column
-ticks_column name dtype ticks = record { name = name; dtype = dtype; slots = map integer_slot ticks; flag = Not }
+ticks_column name dtype ticks =
+    record { name = name; dtype = dtype; slots = map integer_slot ticks; flag = Not }
 
 -- whether the slot is null or a value of the type
 abbrev pub is_fit : DataType → Option ℤ → Bool
@@ -24,11 +25,8 @@ abbrev pub is_tick_slot : Option ℤ → Bool
 is_tick_slot None = true
 is_tick_slot (Some x) = is_within (word_values (Signed w64)) x
 
--- the slots of a cast by a row of the table or none, or why it is refused
-abbrev pub slots_by : DataType → DataType → CastOptions → Option CastRule → List (Option Value) → Result (List (Option Value)) PolarsError
-slots_by from target options rule slots =
+-- the slots of a cast by a rule of the table or none, or why it is refused
+abbrev pub cast_slots : DataType → DataType → CastOptions → Option CastRule →
+    List (Option Value) → Result (List (Option Value)) PolarsError
+cast_slots from target options rule slots =
     unless_refused (cast_refusal from target options rule slots) (map (cast_slot rule) slots)
-
--- the slots of a cast, or why it is refused
-abbrev pub slots_of_cast : DataType → DataType → CastOptions → List (Option Value) → Result (List (Option Value)) PolarsError
-slots_of_cast from target options slots = slots_by from target options (cast_rule from target options) slots

@@ -9,8 +9,8 @@ mod shift;
 mod slots;
 #[cfg(test)]
 mod tests;
-mod tick_row;
-mod unit_row;
+mod tick_rule;
+mod unit_rule;
 
 pub use any_value::AnyValue;
 pub use col_types::{

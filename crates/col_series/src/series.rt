@@ -14,8 +14,8 @@ ghost use Rattle.col_series.specs.Slots.{is_fit, ticks_column};
 use crate::cast::cast_slots;
 use crate::shift::shifted_slots;
 use crate::slots::{ROW_LIMIT, first_unfit, ticks};
-use crate::tick_row::changed_list;
-use crate::unit_row::unit_row;
+use crate::tick_rule::changed_list;
+use crate::unit_rule::unit_change_rule;
 use crate::{
     AnyValue, CastOptions, DataType, OpName, PlSmallStr, PolarsError, PolarsResult, TimeUnit,
 };
@@ -207,14 +207,14 @@ impl Series {
     pub fn cast_time_unit(&self, alloc: Global, unit: TimeUnit) -> PolarsResult<Series>
         ensures column { GivesBy column_of result (in_unit_of self.now.column unit) }
     {
-        match unit_row(&self.dtype, unit) {
+        match unit_change_rule(&self.dtype, unit) {
             None => Err(PolarsError::Types {
                 op: OpName::Coerce,
                 left: self.dtype.kind(),
                 right: self.dtype.kind(),
             }),
-            Some((dtype, row)) => {
-                let slots = changed_list(alloc, row, &self.slots)?;
+            Some((dtype, rule)) => {
+                let (slots, _) = changed_list(alloc, rule, &self.slots)?;
                 let name = self.name.clone()?;
                 Ok(Series { name, dtype, slots })
             }

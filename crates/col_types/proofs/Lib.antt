@@ -1,3 +1,4 @@
+pub mod DerivedLemmas
 pub mod KnownValues
 pub mod NameLemmas
 pub mod TypeLemmas

@@ -1,5 +1,5 @@
 -- The names of units, and how they stand to each other.
-use Rattle.std.specs.Prelude.{ℕ, List, [], ◌∷◌, codes, ◌/◌, nat_lt, if◌then◌else◌}
+use Rattle.std.specs.Prelude.{ℕ, List, [], ◌∷◌, ◌++◌, codes, ◌/◌, nat_lt, if◌then◌else◌}
 use Rattle.col_types.specs.declared.time_unit.TimeUnit.{TimeUnit}
 use Rattle.col_types.specs.declared.time_unit.TimeUnit.TheVariants.{Nanoseconds, Microseconds, Milliseconds}
 use Rattle.col_types.specs.declared.time_unit.ArrowTimeUnit.{ArrowTimeUnit}
@@ -33,10 +33,14 @@ ticks_per_day unit = nanos_per_day / nanos_per_tick unit
 abbrev pub coarser_unit : TimeUnit → TimeUnit → TimeUnit
 coarser_unit u v = if nat_lt (nanos_per_tick u) (nanos_per_tick v) then v else u
 
+-- The Greek letter mu, as the bytes of a text.
+abbrev pub mu : List ℕ
+mu = 0xCE ∷ 0xBC ∷ []
+
 -- The name as it is printed, as bytes: the micro sign is the Greek letter.
 abbrev pub unit_symbol : TimeUnit → List ℕ
 unit_symbol Nanoseconds = codes "ns"
-unit_symbol Microseconds = 0xCE ∷ 0xBC ∷ codes "s"
+unit_symbol Microseconds = mu ++ codes "s"
 unit_symbol Milliseconds = codes "ms"
 
 -- The unit of that name that Arrow has.

@@ -19,17 +19,23 @@ has_name names name = list_any (bytes_eq name) names
 abbrev pub with_name : List (List ℕ) → List ℕ → List (List ℕ)
 with_name names name = insert_key (slice_cmp nat_cmp) names name
 
--- Each name has at most 64 bytes, for which a zone has room.
-abbrev pub AreShort : List (List ℕ) → Type 0
-AreShort names = (name : List ℕ) → has_name names name ≡ true → length name ≤ 64
+-- How many bytes of a name a zone has room for.
+abbrev pub max_zone_bytes : ℕ
+max_zone_bytes = 64
 
--- The byte of a sign, and of a digit.
+-- Each name has at most as many bytes as a zone has room for.
+abbrev pub AreShort : List (List ℕ) → Type 0
+AreShort names = (name : List ℕ) → has_name names name ≡ true → length name ≤ max_zone_bytes
+
+-- The byte of the sign `+`.
 abbrev pub plus : ℕ
 plus = 43
 
+-- The byte of the sign `-`.
 abbrev pub minus : ℕ
 minus = 45
 
+-- The byte of a digit.
 abbrev pub digit : ℕ → ℕ
 digit n = 48 + n
 
@@ -49,9 +55,14 @@ is_gmt_ending (sign ∷ ones ∷ []) = is_short_ending sign ones
 is_gmt_ending (sign ∷ tens ∷ ones ∷ []) = is_long_ending sign tens ones
 is_gmt_ending _ = false
 
+-- What the name of each zone by whole hours begins with.
+abbrev pub gmt_prefix : List ℕ
+gmt_prefix = codes "Etc/GMT"
+
 -- Whether the name is one of `Etc/GMT-14` to `Etc/GMT-0`, and `Etc/GMT+0` to `Etc/GMT+12`.
 abbrev pub is_gmt_name : List ℕ → Bool
-is_gmt_name name = starts_with nat_eq name (codes "Etc/GMT") && is_gmt_ending (drop 7 name)
+is_gmt_name name =
+    starts_with nat_eq name gmt_prefix && is_gmt_ending (drop (length gmt_prefix) name)
 
 -- Whether the name is accepted, where the names are those that were handed in.
 abbrev pub is_accepted : List (List ℕ) → List ℕ → Bool
@@ -73,7 +84,7 @@ hour_text hour = if nat_lt hour 10 then digit hour ∷ [] else digit 1 ∷ digit
 -- The name for an offset of so many hours, behind `UTC` or before it: the sign is turned.
 abbrev pub gmt_name : Bool → ℕ → List ℕ
 gmt_name behind hour =
-    codes "Etc/GMT" ++ ((if behind then codes "+" else codes "-") ++ hour_text hour)
+    gmt_prefix ++ ((if behind then codes "+" else codes "-") ++ hour_text hour)
 
 -- The number that two digits write.
 abbrev pub two_digits : ℕ → ℕ → ℕ

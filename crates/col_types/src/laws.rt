@@ -1,6 +1,8 @@
 // Laws above the definitions. Each function does nothing: its contract is the law.
-ghost use Rattle.std.specs.Prelude.{◌≡◌, List, ℕ, [], true, Option, Some, None, Ok};
+ghost use Rattle.std.specs.Prelude.{◌≡◌, ◌↔◌, List, ℕ, [], true, Option, Some, None, Ok};
 ghost use Rattle.std.specs.Cmp.{IsEquivalence};
+ghost use Rattle.col_types.specs.declared.data_type.DataType.{DataType};
+ghost use Rattle.col_types.specs.DataType.{same_type, shape_of};
 ghost use Rattle.col_types.specs.declared.is_sorted.IsSorted.{IsSorted};
 ghost use Rattle.col_types.specs.declared.time_unit.TimeUnit.{TimeUnit};
 ghost use Rattle.col_types.specs.TimeUnit.{coarser_unit, to_arrow, from_arrow};
@@ -9,7 +11,7 @@ ghost use Rattle.col_types.specs.Zones.{opt_zone, eq_wildcard_aware, eq_none_as_
 ghost use Rattle.col_types.specs.Laws.{OrdersByTick, HasOneMore, GivesItselfAgain};
 ghost use Rattle.col_types.specs.Laws.{WildcardJoinsWhatDiffers};
 
-use crate::TimeUnit;
+use crate::{DataType, TimeUnit};
 
 /// The claim that was turned twice is the first one.
 pub fn reverse_flag()
@@ -45,4 +47,11 @@ pub fn zone_equalities()
     ensures reflexive { (y : List ℕ) → eq_wildcard_aware y y ≡ true }
     ensures symmetric { (y z : List ℕ) → eq_wildcard_aware y z ≡ eq_wildcard_aware z y }
     ensures not_transitive { WildcardJoinsWhatDiffers }
+{}
+
+/// Two types are equal by `==` exactly where they are equal wherever their boxes lie, which is
+/// where they have one shape.
+pub fn equal_types()
+    ensures derived { (a b : DataType) → ⟦<DataType as PartialEq>⟧.eq a b ≡ same_type a b }
+    ensures shapes { (a b : DataType) → (same_type a b ≡ true) ↔ (shape_of a ≡ shape_of b) }
 {}

@@ -25,14 +25,15 @@ pub use error::{PolarsError, PolarsResult};
 pub use field::Field;
 pub use is_sorted::IsSorted;
 pub use laws::{
-    names_are_kept, reverse_flag, units_are_ordered, units_translate, zone_equalities,
+    equal_types, names_are_kept, reverse_flag, units_are_ordered, units_translate, zone_equalities,
     zone_names_are_canonical,
 };
 pub use operator::{BinOp, OpName, ScalarOp};
 pub use small_str::PlSmallStr;
 pub use supertype::{flat_supertype, try_get_supertype};
-pub use time_unit::{ArrowTimeUnit, TimeUnit, get_time_units};
-pub use time_zone::{TimeZone, parse_fixed_offset, parse_time_zone};
+pub use time_unit::{ArrowTimeUnit, MILLIS_PER_DAY, NANOS_PER_DAY, TimeUnit, get_time_units};
+pub use time_zone::{MAX_ZONE_BYTES, TimeZone, parse_fixed_offset, parse_time_zone};
+pub use type_classes::MAX_DIGITS;
 pub use zone_names::ZoneNames;
 
 /// The number of a row.

@@ -5,6 +5,12 @@ ghost use Rattle.col_types.specs.TimeUnit.{coarser_unit, to_arrow, from_arrow};
 
 use std::fmt;
 
+/// The nanoseconds of a day.
+pub const NANOS_PER_DAY: i64 = 86_400_000_000_000;
+
+/// The milliseconds of a day.
+pub const MILLIS_PER_DAY: i64 = 86_400_000;
+
 /// The length of a tick, finest first.
 #[derive(Clone, Copy, Debug, PartialEq, Eq, PartialOrd, Hash)]
 pub enum TimeUnit {
@@ -44,6 +50,7 @@ impl TimeUnit {
             TimeUnit::Milliseconds => 1_000_000,
         }
     }
+
     /// Arrow's unit of that name.
     pub fn to_arrow(self) -> ArrowTimeUnit
         ensures unit { result ≡ to_arrow self }

@@ -9,7 +9,8 @@ ghost use Rattle.std.specs.Hash as fed;
 ghost use Rattle.std.proofs.Common.{rules};
 ghost use Rattle.col_types.specs.declared.error.PolarsError.TheVariants.{Zone};
 ghost use Rattle.col_types.specs.PolarsError.{Gives};
-ghost use Rattle.col_types.specs.Zones.{zone_of, opt_zone, canonical_text, is_utc_spelling};
+ghost use Rattle.col_types.specs.Zones.{max_zone_bytes, is_utc_spelling};
+ghost use Rattle.col_types.specs.Zones.{zone_of, opt_zone, canonical_text};
 ghost use Rattle.col_types.specs.Zones.{parsed_zone, validated_zone, parsed_offset};
 ghost use Rattle.col_types.specs.Zones.{eq_wildcard_aware, eq_none_as_utc, none_as_utc};
 
@@ -19,10 +20,13 @@ use std::fmt;
 use std::hash::{Hash, Hasher};
 use std::marker::Model;
 
+/// How many bytes of a name a zone has room for.
+pub const MAX_ZONE_BYTES: usize = 64;
+
 /// The name of a zone, of at most 64 bytes. A contract sees it as the bytes of the name.
 #[derive(Clone, Copy)]
 pub struct TimeZone {
-    bytes: [u8; 64],
+    bytes: [u8; MAX_ZONE_BYTES],
     len: u8,
 }
 
@@ -110,7 +114,7 @@ impl TimeZone {
 
     // The zone of a name that has room in it.
     pub(crate) fn named(name: &str) -> TimeZone
-        requires { length name.now ≤ 64 }
+        requires short { length name.now ≤ max_zone_bytes }
         ensures name { result ≡ name.now }
     {
         let bytes = padded_bytes(name.as_bytes());
@@ -190,19 +194,19 @@ fn name_or_utc(zone: Option<&TimeZone>) -> &str
     }
 }
 
-// The bytes of a name, and zeros up to 64.
-fn padded_bytes(name: &[u8]) -> [u8; 64]
-    requires { length name.now ≤ 64 }
-    ensures bytes { result ≡ name.now ++ replicate (64 - length name.now) 0 }
+// The bytes of a name, and zeros after it.
+fn padded_bytes(name: &[u8]) -> [u8; MAX_ZONE_BYTES]
+    requires short { length name.now ≤ max_zone_bytes }
+    ensures bytes { result ≡ name.now ++ replicate (max_zone_bytes - length name.now) 0 }
 {
-    let mut bytes = [0; 64];
+    let mut bytes = [0; MAX_ZONE_BYTES];
     copy_front(&mut bytes, name);
     bytes
 }
 
 // The name, and what stood behind it.
 fn copy_front(bytes: &mut [u8], name: &[u8])
-    requires { length name.now ≤ length bytes.old }
+    requires room { length name.now ≤ length bytes.old }
     ensures bytes { bytes.new ≡ name.now ++ drop (length name.now) bytes.old }
 {
     bytes[..name.len()].copy_from_slice(name);

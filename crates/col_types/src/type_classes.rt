@@ -1,14 +1,15 @@
 // Which types are what. No call takes memory.
 ghost use Rattle.std.specs.Prelude.{◌≡◌, false};
-ghost use Rattle.col_types.specs.DataType.{is_integer, is_temporal, is_nested};
+ghost use Rattle.col_types.specs.DataType.{is_integer, is_temporal, is_nested, is_built};
 ghost use Rattle.col_types.specs.DataType.{holds_integers, leaf_of, has_scale};
-ghost use Rattle.col_types.specs.DataType.{is_wildcard, is_allowed_digits, is_bad_leaf, is_bad_target};
-ghost use Rattle.col_types.specs.DataType.{is_column_type, is_expression_type, is_expression_target};
+ghost use Rattle.col_types.specs.DataType.{is_wildcard, is_allowed_digits};
+ghost use Rattle.col_types.specs.DataType.{is_bad_leaf, is_bad_target, is_column_type};
+ghost use Rattle.col_types.specs.DataType.{is_expression_type, is_expression_target};
 
 use crate::{DataType, TimeZone};
 
-// The most digits that a decimal's word has room for.
-const MOST_DIGITS: usize = 38;
+/// The most digits that a decimal has, and the most behind its point.
+pub const MAX_DIGITS: usize = 38;
 
 impl DataType {
     /// Whether the type is one of the nine integers.
@@ -32,6 +33,16 @@ impl DataType {
     /// Whether the type has a civil meaning: dates, datetimes, durations and times.
     pub fn is_temporal(&self) -> bool
         ensures value { result ≡ is_temporal self.now }
+    {
+        matches!(
+            self,
+            DataType::Date | DataType::Datetime(_, _) | DataType::Duration(_) | DataType::Time
+        )
+    }
+
+    /// Whether columns of the type exist so far: each further type adds itself here.
+    pub fn is_built(&self) -> bool
+        ensures value { result ≡ is_built self.now }
     {
         matches!(
             self,
@@ -130,7 +141,7 @@ fn is_allowed(digits: Option<usize>) -> bool
     ensures value { result ≡ is_allowed_digits digits }
 {
     match digits {
-        Some(digits) => digits <= MOST_DIGITS,
+        Some(digits) => digits <= MAX_DIGITS,
         None => true,
     }
 }

@@ -1,6 +1,6 @@
 // The names of zones that a caller hands in.
 ghost use Rattle.std.specs.Prelude.{◌≡◌, ◌≢◌, ◌<◌, ◌≤◌, [], Ok, IsTrue, length, codes};
-ghost use Rattle.col_types.specs.Zones.{has_name, with_name};
+ghost use Rattle.col_types.specs.Zones.{max_zone_bytes, has_name, with_name};
 ghost use Rattle.col_types.specs.PolarsError.{Becomes};
 
 use crate::{PlSmallStr, PolarsResult};
@@ -40,7 +40,7 @@ impl ZoneNames {
     /// Hands in a name of 1 to 64 bytes that isn't the wildcard. The one refusal is `NoMemory`.
     pub fn insert(&mut self, name: PlSmallStr) -> PolarsResult<()>
         requires filled { 0 < length name }
-        requires short { length name ≤ 64 }
+        requires short { length name ≤ max_zone_bytes }
         requires no_wildcard { name ≢ codes "*" }
         ensures names { Becomes result self.old self.new (Ok (with_name self.old name)) }
     {
@@ -51,7 +51,7 @@ impl ZoneNames {
     /// Whether the name was handed in.
     pub fn contains(&self, name: &str) -> bool
         ensures value { result ≡ has_name self.now name.now }
-        ensures short { IsTrue result → length name.now ≤ 64 }
+        ensures short { IsTrue result → length name.now ≤ max_zone_bytes }
     {
         self.names.contains(name)
     }

@@ -1,12 +1,16 @@
 // What a text says of a zone: other spellings, accepted names, fixed offsets.
 ghost use Rattle.std.specs.Prelude.{◌≡◌, ◌≤◌, drop, true, false, IsTrue, length};
 ghost use Rattle.std.specs.Char.{is_ascii_digit};
+ghost use Rattle.col_types.specs.Zones.{max_zone_bytes, gmt_prefix};
 ghost use Rattle.col_types.specs.Zones.{is_utc_spelling, is_gmt_name, is_accepted, accepted_name};
 ghost use Rattle.col_types.specs.Zones.{is_gmt_ending, is_short_ending, is_long_ending};
 ghost use Rattle.col_types.specs.Zones.{offset_name, unsigned_offset_name, is_offset};
 ghost use Rattle.col_types.specs.Zones.{is_full_hour, two_digits, gmt_name};
 
 use crate::{TimeZone, ZoneNames};
+
+// What the name of each zone by whole hours begins with.
+const GMT_PREFIX: &str = "Etc/GMT";
 
 // Whether the text is one of the other spellings of `UTC`.
 pub(crate) fn is_utc_spelling(text: &str) -> bool
@@ -15,10 +19,10 @@ pub(crate) fn is_utc_spelling(text: &str) -> bool
     text == "+00:00" || text == "00:00" || text == "utc"
 }
 
-// Whether the name is accepted, which no name of more than 64 bytes is.
+// Whether the name is accepted, which no name is that a zone has no room for.
 pub(crate) fn is_accepted(name: &str, names: &ZoneNames) -> bool
     ensures value { result ≡ is_accepted names.now name.now }
-    ensures short { IsTrue result → length name.now ≤ 64 }
+    ensures short { IsTrue result → length name.now ≤ max_zone_bytes }
 {
     if name == "UTC" {
         return true;
@@ -43,19 +47,19 @@ pub(crate) fn accepted_zone(zone: TimeZone, names: &ZoneNames) -> Option<TimeZon
 // Whether the name is one of those by whole hours.
 pub(crate) fn is_gmt_name(name: &str) -> bool
     ensures value { result ≡ is_gmt_name name.now }
-    ensures short { IsTrue result → length name.now ≤ 64 }
+    ensures short { IsTrue result → length name.now ≤ max_zone_bytes }
 {
-    if !name.starts_with("Etc/GMT") {
+    if !name.starts_with(GMT_PREFIX) {
         return false;
     }
     is_gmt_ending(after_gmt(name.as_bytes()))
 }
 
 fn after_gmt(name: &[u8]) -> &[u8]
-    requires { 7 ≤ length name.now }
-    ensures rest { result.now ≡ drop 7 name.now }
+    requires prefix { length gmt_prefix ≤ length name.now }
+    ensures rest { result.now ≡ drop (length gmt_prefix) name.now }
 {
-    &name[7..]
+    &name[GMT_PREFIX.len()..]
 }
 
 fn is_gmt_ending(ending: &[u8]) -> bool
@@ -120,7 +124,8 @@ fn is_full_hour(minutes: &[u8]) -> bool
 }
 
 fn two_digits(tens: u8, ones: u8) -> u8
-    requires { IsTrue (is_ascii_digit tens) × IsTrue (is_ascii_digit ones) }
+    requires tens { IsTrue (is_ascii_digit tens) }
+    requires ones { IsTrue (is_ascii_digit ones) }
     ensures value { result ≡ two_digits tens ones }
 {
     (tens - b'0') * 10 + (ones - b'0')
@@ -128,7 +133,7 @@ fn two_digits(tens: u8, ones: u8) -> u8
 
 // A clock behind `UTC` has the sign `+` in its name, and one before it `-`.
 fn gmt_zone(behind: bool, hour: u8) -> TimeZone
-    requires { hour ≤ 14 }
+    requires hour { hour ≤ 14 }
     ensures name { result ≡ gmt_name behind hour }
 {
     if behind {
@@ -139,9 +144,9 @@ fn gmt_zone(behind: bool, hour: u8) -> TimeZone
 }
 
 fn name_behind(hour: u8) -> &'static str
-    requires { hour ≤ 14 }
+    requires hour { hour ≤ 14 }
     ensures name { result.now ≡ gmt_name true hour }
-    ensures short { length result.now ≤ 64 }
+    ensures short { length result.now ≤ max_zone_bytes }
 {
     match hour {
         0 => "Etc/GMT+0",
@@ -163,9 +168,9 @@ fn name_behind(hour: u8) -> &'static str
 }
 
 fn name_before(hour: u8) -> &'static str
-    requires { hour ≤ 14 }
+    requires hour { hour ≤ 14 }
     ensures name { result.now ≡ gmt_name false hour }
-    ensures short { length result.now ≤ 64 }
+    ensures short { length result.now ≤ max_zone_bytes }
 {
     match hour {
         0 => "Etc/GMT-0",

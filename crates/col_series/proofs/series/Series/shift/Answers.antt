@@ -2,7 +2,7 @@ use Rattle.std.proofs.Common.{◌≡◌, ap, ◌∙◌}
 use Rattle.std.specs.Int.{w64}
 use Rattle.std.proofs.lemmas.Int.{to_z-of_z}
 use Rattle.col_series.specs.Shift.{shifted_ticks}
-use Rattle.col_series.proofs.ColumnLemmas.{ticks_fit, ticks_short}
+use Rattle.col_series.proofs.ColumnLemmas.{ticks_fit, ticks_short, gives_column}
 use Rattle.col_series.proofs.SlotLemmas.{shifted-ticks, shifted-fit, length-shifted}
 use Rattle.col_series.proofs.series.Series.shift.Goals as goal
 
@@ -25,4 +25,4 @@ returns c =
     let is = rw (same, to_z-of_z w64 c.args.periods c.ranges.periods) at c.in_ok-ticks.ensures.slots in
     let column = shifted-ticks c.self.inside.name c.self.inside.dtype c.self.inside.slots.value.items c.args.periods in
     let gave = rw (c.in_ok-name.ensures.cases, c.clone_flat.ensures.equal, is) at c.from_ticks.ensures.column in
-    record { column = rw (← c.self.view_is, column) gave }
+    record { column = rw (← c.self.view_is, column) (gives_column _ _ gave) }

@@ -1,5 +1,5 @@
--- Each row of the tables makes of a value of its source a value of its target, or null.
-use Rattle.std.proofs.Common.{◌≡◌, ◌<◌, ◌≤◌, ◌^◌, ◌-◌, ◌*◌, ◌/◌, ◌%◌, ℕ, zero, suc, ℤ, pos, negsuc, neg_ℤ, ◌*ℤ◌, int_le, Bool, true, false, List, [], ◌∷◌, map, Option, Some, None, refl, cond, arith, div-le_self, FitsSigned, mod-lt}
+-- Each rule of the tables makes of a value of its source a value of its target, or null.
+use Rattle.std.proofs.Common.{◌≡◌, ◌&&◌, ◌<◌, ◌≤◌, ◌^◌, ◌-◌, ◌*◌, ◌/◌, ◌%◌, ℕ, zero, suc, ℤ, pos, negsuc, neg_ℤ, ◌*ℤ◌, ◌≤ℤ◌, ◌<ℤ◌, int_le, Bool, true, false, List, [], ◌∷◌, map, Option, Some, None, refl, cond, arith, div-le_self, FitsSigned, mod-lt}
 use Rattle.std.specs.List.{list_all}
 use Rattle.std.specs.Int.{w32, w64}
 use Rattle.std.specs.Option.{option_and_then}
@@ -10,29 +10,24 @@ use Rattle.col_types.specs.declared.time_unit.TimeUnit.{TimeUnit}
 use Rattle.col_types.specs.declared.time_unit.TimeUnit.TheVariants.{Nanoseconds, Microseconds, Milliseconds}
 use Rattle.col_types.specs.declared.cast_options.CastOptions.{CastOptions}
 use Rattle.col_types.specs.declared.cast_options.CastOptions.TheVariants.{Strict, NonStrict, Overflowing}
-use Rattle.col_types.specs.TimeUnit.{ticks_per_day}
+use Rattle.col_types.specs.TimeUnit.{nanos_per_day, ticks_per_day}
+use Rattle.col_types.specs.DataType.{same_unit, same_zone}
 use Rattle.col_model.specs.Arithmetic.{Interval, Signed, word_values, is_within, fitting_value, wrapped_value, floor_by, trunc_by, floor_mod}
 use Rattle.col_model.specs.declared.ticks.UnitChange.{UnitChange}
 use Rattle.col_model.specs.declared.ticks.UnitChange.TheVariants.{Finer, Same, Coarser}
-use Rattle.col_model.specs.Formula.{X, value_of}
-use Rattle.col_model.specs.UnitChange.{unit_change, datetime_by, duration_by, wrapped_datetime_by, wrapped_duration_by}
+use Rattle.col_model.specs.Formula.{X, Constant, FloorMod, value_of}
+use Rattle.col_model.specs.UnitChange.{times, unit_change, datetime_in_unit, duration_in_unit, datetime_by, duration_by, wrapped_datetime_by, wrapped_duration_by}
 use Rattle.col_model.specs.Value.{integer_slot}
 use Rattle.col_model.specs.Column.{is_built_type, is_slot_of, day_values}
-use Rattle.col_model.specs.CastTable.{CastRule, cast_rule, day_of, time_of}
+use Rattle.col_model.specs.CastTable.{CastRule, cast_rule, rising, day_of, time_of}
 use Rattle.col_model.specs.ColumnCalls.{cast_slot}
 use Rattle.col_model.specs.OperatorTable.{OperatorRule}
 use Rattle.col_model.specs.ScalarTable.{unit_change_rule}
 use Rattle.col_model.proofs.WrapLemmas.{wrapped-fits}
 use Rattle.col_series.specs.Slots.{is_fit, is_tick_slot}
-use Rattle.col_series.proofs.TypeLemmas.{by_built_type, day-wider}
+use Rattle.col_series.proofs.TypeLemmas.{by_built_type, within-pos, within-negsuc, day-wider}
 
 -- ---- words
-
-within-pos : (n : ℕ) → n < 2 ^ 63 → is_within (word_values (Signed w64)) (pos n) ≡ true
-within-pos n h = le-leb n (2 ^ 63 - 1) (omega arith)
-
-within-negsuc : (n : ℕ) → n < 2 ^ 63 → is_within (word_values (Signed w64)) (negsuc n) ≡ true
-within-negsuc n h = and_from _ _ (le-leb n (2 ^ 63 - 1) (omega arith)) refl
 
 pos-within : (n : ℕ) → is_within (word_values (Signed w64)) (pos n) ≡ true → n < 2 ^ 63
 pos-within n h = let le : n ≤ 2 ^ 63 - 1 = leb-true n (2 ^ 63 - 1) h in omega arith
@@ -120,6 +115,19 @@ floor_mod-pos n k h = omega (arith, ints)
 floor_mod-negsuc : (n k : ℕ) → 0 < k → floor_mod (negsuc n) (pos k) ≡ pos (k - 1 - n % k)
 floor_mod-negsuc n k h = omega (arith, ints)
 
+-- what a day leaves is a number of 64 bits, in nanoseconds
+rest-fits : (r k m : ℕ) → r < k → k * m ≡ 86400000000000 → r * m < 2 ^ 63
+rest-fits r k m h e = grind arith
+
+pub time-fits : (x : ℤ) (k m : ℕ) → pos 0 ≤ℤ x → x <ℤ pos k → k * m ≡ nanos_per_day → FitsSigned w64 (x *ℤ pos m)
+time-fits (pos n) k m low below e = record { sfits = rest-fits n k m (omega (arith, ints)) e }
+time-fits (negsuc n) k m low below e = absurd (omega (arith, ints))
+
+-- and the rest by some number is there
+pub time-read : (rest x : ℤ) (day nanos : ℕ) → 0 < day → rest ≡ floor_mod x (pos day) → Some (rest *ℤ pos nanos) ≡ value_of (times nanos (FloorMod X (Constant (pos day)))) x x
+time-read rest x zero nanos h e = absurd (omega arith)
+time-read rest x (suc day) nanos h e = rw e refl
+
 -- what a day leaves of a moment, in nanoseconds
 time-within : (x : ℤ) (k m : ℕ) → 0 < k → 0 < m → k * m ≡ 86400000000000 → is_within day_values (floor_mod x (pos k) *ℤ pos m) ≡ true
 time-within (pos n) k m h i e =
@@ -147,12 +155,20 @@ from_date target options x h = refl
 
 from_datetime : (from : TimeUnit) (own : Option (List ℕ)) (target : DataType) (options : CastOptions) (x : ℤ) → is_tick_slot (Some x) ≡ true → is_slot_of target (cast_slot (cast_rule (Datetime from own) target options) (integer_slot (Some x))) ≡ true
 from_datetime from own Date options x h = day-fit options from x
-from_datetime from own (Datetime unit name) options x h = moment_fit unit name (value_of (datetime_by (unit_change from unit) X) x x) (datetime_by-within (unit_change from unit) x h)
+from_datetime from own (Datetime unit name) options x h = go (same_unit from unit && same_zone own name)
+  where
+    go : (same : Bool) → is_slot_of (Datetime unit name) (cast_slot (cond same (rising X) (rising (datetime_in_unit from unit X))) (integer_slot (Some x))) ≡ true
+    go true = h
+    go false = moment_fit unit name (value_of (datetime_by (unit_change from unit) X) x x) (datetime_by-within (unit_change from unit) x h)
 from_datetime from own Time options x h = time-fit from x
 from_datetime from own target options x h = refl
 
 from_duration : (from : TimeUnit) (target : DataType) (options : CastOptions) (x : ℤ) → is_tick_slot (Some x) ≡ true → is_slot_of target (cast_slot (cast_rule (Duration from) target options) (integer_slot (Some x))) ≡ true
-from_duration from (Duration unit) options x h = length_fit unit (value_of (duration_by (unit_change from unit) X) x x) (duration_by-within (unit_change from unit) x h)
+from_duration from (Duration unit) options x h = go (same_unit from unit)
+  where
+    go : (same : Bool) → is_slot_of (Duration unit) (cast_slot (cond same (rising X) (rising (duration_in_unit from unit X))) (integer_slot (Some x))) ≡ true
+    go true = h
+    go false = length_fit unit (value_of (duration_by (unit_change from unit) X) x x) (duration_by-within (unit_change from unit) x h)
 from_duration from target options x h = refl
 
 from_time : (target : DataType) (options : CastOptions) (x : ℤ) → is_fit Time (Some x) ≡ true → is_slot_of target (cast_slot (cast_rule Time target options) (integer_slot (Some x))) ≡ true
@@ -180,12 +196,12 @@ cast_slots-fit from target options typed (slot ∷ ticks) h =
 
 -- ---- the table of units
 
--- a row of the table keeps its type's values in its answer's type, of which columns exist too
-pub record IsUnitRow (from : DataType) (rule : OperatorRule) : Type 0 where
+-- a rule of the table keeps its type's values in its answer's type, of which columns exist too
+pub record IsUnitRule (from : DataType) (rule : OperatorRule) : Type 0 where
   pub typed : is_built_type from ≡ true → is_built_type rule.dtype ≡ true
   pub fits : (x : ℤ) → is_fit from (Some x) ≡ true → is_fit rule.dtype (value_of rule.formula x x) ≡ true
 
-unit_datetime : (from unit : TimeUnit) (own : Option (List ℕ)) (rule : OperatorRule) → Some rule ≡ unit_change_rule (Datetime from own) unit → IsUnitRow (Datetime from own) rule
+unit_datetime : (from unit : TimeUnit) (own : Option (List ℕ)) (rule : OperatorRule) → Some rule ≡ unit_change_rule (Datetime from own) unit → IsUnitRule (Datetime from own) rule
 unit_datetime from unit own rule e =
     let is : rule ≡ record { dtype = Datetime unit own; formula = wrapped_datetime_by (unit_change from unit) X } = cc in
     rw is (record {
@@ -193,7 +209,7 @@ unit_datetime from unit own rule e =
       fits = λ (x : ℤ) h. moment_fit unit own (value_of (wrapped_datetime_by (unit_change from unit) X) x x) (wrapped_datetime_by-within (unit_change from unit) x h);
     })
 
-unit_duration : (from unit : TimeUnit) (rule : OperatorRule) → Some rule ≡ unit_change_rule (Duration from) unit → IsUnitRow (Duration from) rule
+unit_duration : (from unit : TimeUnit) (rule : OperatorRule) → Some rule ≡ unit_change_rule (Duration from) unit → IsUnitRule (Duration from) rule
 unit_duration from unit rule e =
     let is : rule ≡ record { dtype = Duration unit; formula = wrapped_duration_by (unit_change from unit) X } = cc in
     rw is (record {
@@ -201,14 +217,14 @@ unit_duration from unit rule e =
       fits = λ (x : ℤ) h. length_fit unit (value_of (wrapped_duration_by (unit_change from unit) X) x x) (wrapped_duration_by-within (unit_change from unit) x h);
     })
 
-pub unit_row : (from : DataType) (unit : TimeUnit) (rule : OperatorRule) → is_built_type from ≡ true → Some rule ≡ unit_change_rule from unit → IsUnitRow from rule
-unit_row from unit rule typed e =
-    by_built_type (λ f. Some rule ≡ unit_change_rule f unit → IsUnitRow f rule)
+pub unit_rule : (from : DataType) (unit : TimeUnit) (rule : OperatorRule) → is_built_type from ≡ true → Some rule ≡ unit_change_rule from unit → IsUnitRule from rule
+unit_rule from unit rule typed e =
+    by_built_type (λ f. Some rule ≡ unit_change_rule f unit → IsUnitRule f rule)
     (λ none. cc) (λ old own is. unit_datetime old unit own rule is) (λ old is. unit_duration old unit rule is) (λ none. cc)
     from typed e
 
 -- so the slots in another unit are slots of its type
-pub unit_slots-fit : (from : DataType) (rule : OperatorRule) (ticks : List (Option ℤ)) → IsUnitRow from rule → list_all (is_fit from) ticks ≡ true
+pub unit_slots-fit : (from : DataType) (rule : OperatorRule) (ticks : List (Option ℤ)) → IsUnitRule from rule → list_all (is_fit from) ticks ≡ true
     → list_all (is_fit rule.dtype) (map (option_and_then (λ x. value_of rule.formula x x)) ticks) ≡ true
 unit_slots-fit from rule [] row h = refl
 unit_slots-fit from rule (None ∷ ticks) row h = unit_slots-fit from rule ticks row h

@@ -1,0 +1,92 @@
+-- The rules of the tables as the code keeps them: what becomes of each tick.
+use Rattle.std.specs.Prelude.{◌≡◌, ◌<◌, ◌^◌, ◌*◌, ℕ, ℤ, pos, Bool, true, false, List, map, Option, Some, None, is_some, is_none, ◌&&◌, if◌then◌else◌}
+use Rattle.std.specs.Int.{w32}
+use Rattle.std.specs.Option.{option_and_then}
+use Rattle.col_types.specs.TimeUnit.{nanos_per_day}
+use Rattle.col_types.specs.declared.data_type.DataType.{DataType}
+use Rattle.col_model.specs.Arithmetic.{Signed}
+use Rattle.col_model.specs.Formula.{Formula, X, Constant, FloorBy, FloorMod, value_of, slot_by}
+use Rattle.col_model.specs.UnitChange as units
+use Rattle.col_model.specs.declared.ticks.UnitChange.TheVariants as changes
+use Rattle.col_model.specs.Value.{integer_slot}
+use Rattle.col_model.specs.CastTable.{CastRule, narrowed}
+use Rattle.col_model.specs.ColumnCalls.{first_lost}
+use Rattle.col_model.specs.OperatorTable.{OperatorRule}
+use Rattle.col_series.specs.declared.tick_rule.TickRule.{TickRule}
+use Rattle.col_series.specs.declared.tick_rule.TickRule.TheVariants as rules
+
+-- the formula that a rule stands for
+abbrev pub formula_of : TickRule → Formula
+formula_of rules.Same = X
+formula_of (rules.DayStart day) = units.in_finer_unit day X
+formula_of (rules.Day day options) = narrowed options (Signed w32) (FloorBy X day)
+formula_of (rules.Time day nanos) = units.times nanos (FloorMod X (Constant (pos day)))
+formula_of (rules.Datetime change) = units.datetime_by change X
+formula_of (rules.Duration change) = units.duration_by change X
+formula_of (rules.WrappedDatetime change) = units.wrapped_datetime_by change X
+formula_of (rules.WrappedDuration change) = units.wrapped_duration_by change X
+
+-- ---- one tick, and each
+
+-- a tick under the rule
+abbrev pub changed_tick : TickRule → ℤ → Option ℤ
+changed_tick rule tick = value_of (formula_of rule) tick tick
+
+-- each tick under the rule
+abbrev pub changed_ticks : TickRule → List (Option ℤ) → List (Option ℤ)
+changed_ticks rule ticks = map (option_and_then (changed_tick rule)) ticks
+
+-- the row, where its tick became null
+abbrev pub lost_at : ℕ → Option ℤ → Option ℤ → Option ℕ
+lost_at row old new = if is_some old && is_none new then Some row else None
+
+-- the first row, from this one on, whose tick the rule makes null
+abbrev pub first_lost_tick : TickRule → ℕ → List (Option ℤ) → Option ℕ
+first_lost_tick rule row ticks = first_lost (slot_by (formula_of rule)) row (map integer_slot ticks)
+
+-- whether the rule keeps each tick
+abbrev pub is_same : TickRule → Bool
+is_same rules.Same = true
+is_same (rules.Datetime changes.Same) = true
+is_same (rules.Duration changes.Same) = true
+is_same (rules.WrappedDatetime changes.Same) = true
+is_same (rules.WrappedDuration changes.Same) = true
+is_same _ = false
+
+-- a day's ticks are some, and a number of 64 bits
+pub record IsDay (day : ℕ) : Type 0 where
+  pub some : 0 < day
+  pub small : day < 2 ^ 63
+
+-- a day has so many ticks of so many nanoseconds
+pub record IsWholeDay (day nanos : ℕ) : Type 0 where
+  pub whole : day * nanos ≡ nanos_per_day
+  pub proper : IsDay day
+
+-- a rule divides by no zero, and its numbers fit into words
+abbrev pub IsProper : TickRule → Type 0
+IsProper rules.Same = Unit {0}
+IsProper (rules.DayStart day) = IsDay day
+IsProper (rules.Day day options) = IsDay day
+IsProper (rules.Time day nanos) = IsWholeDay day nanos
+IsProper (rules.Datetime change) = units.IsProper change
+IsProper (rules.Duration change) = units.IsProper change
+IsProper (rules.WrappedDatetime change) = units.IsProper change
+IsProper (rules.WrappedDuration change) = units.IsProper change
+
+-- ---- as the tables have them
+
+-- whether what the rule gives never decreases
+abbrev pub is_monotone : TickRule → Bool
+is_monotone (rules.Time day nanos) = false
+is_monotone _ = true
+
+-- a rule of the cast table, or none
+abbrev pub cast_rule_of : Option TickRule → Option CastRule
+cast_rule_of None = None
+cast_rule_of (Some rule) =
+    Some (record { formula = formula_of rule; monotone = is_monotone rule })
+
+-- a type and a rule, as the tables of operators have them
+abbrev pub unit_rule_of : DataType × TickRule → OperatorRule
+unit_rule_of typed = record { dtype = typed.0; formula = formula_of typed.1 }
