@@ -7,3 +7,7 @@ pub mod BinaryLemmas
 pub mod InputsLemmas
 pub mod DefinedLemmas
 pub mod CauseLemmas
+pub mod FoldFacts
+pub mod FoldSteps
+pub mod FoldTurns
+pub mod FoldLemmas

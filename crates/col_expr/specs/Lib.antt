@@ -13,3 +13,4 @@ pub mod FoundPlan
 pub mod PlanLaws
 pub mod Folded
 pub mod FoldLaws
+pub mod Waiting

@@ -71,7 +71,7 @@ fn evaluate_node<L: Ledger>(
 }
 
 // The number of the next node.
-fn take_number(next: &mut u32) -> u32
+pub(crate) fn take_number(next: &mut u32) -> u32
     requires small { next.old < max_nodes }
     ensures number { result ≡ next.old }
     ensures next { next.new ≡ next.old + 1 }
@@ -82,7 +82,7 @@ fn take_number(next: &mut u32) -> u32
 }
 
 // Counts a step for each slot of a node's answer.
-fn counted<L: Ledger>(
+pub(crate) fn counted<L: Ledger>(
     answer: Result<Series, EvalError>,
     steps: &mut Steps<L>,
 ) -> Result<Series, EvalError>
@@ -98,7 +98,7 @@ fn counted<L: Ledger>(
     }
 }
 
-fn input_column(alloc: Global, inputs: &Inputs, index: u32, node: u32) -> Result<Series, EvalError>
+pub(crate) fn input_column(alloc: Global, inputs: &Inputs, index: u32, node: u32) -> Result<Series, EvalError>
     ensures found { IsFound (columns_of inputs.now) (One node) (Input index) result }
 {
     match inputs.get(index) {

@@ -5,6 +5,8 @@ mod check;
 mod error;
 mod evaluation;
 mod expr;
+mod fold_laws;
+mod folded;
 mod inputs;
 mod interval;
 mod laws;
@@ -12,6 +14,7 @@ mod node;
 mod operations;
 mod plan;
 mod steps;
+mod waiting;
 #[cfg(test)]
 mod tests;
 
@@ -21,6 +24,8 @@ pub use check::check_plan;
 pub use error::{EvalError, ExprCause, ExprRefused};
 pub use evaluation::evaluate;
 pub use expr::Expr;
+pub use fold_laws::folding_changes_no_answer;
+pub use folded::evaluate_folded;
 pub use inputs::Inputs;
 pub use interval::Interval;
 pub use laws::{
