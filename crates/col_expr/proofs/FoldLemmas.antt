@@ -18,10 +18,10 @@ use Rattle.col_expr.specs.Meaning.{dtype_of, slot_at}
 use Rattle.col_expr.specs.Refusal.{refusal_at, first_refusal, outcome_by, outcome}
 use Rattle.col_expr.specs.Plan.{Plan, rule_holds, rules_hold, ends_before, is_plan_valid}
 use Rattle.col_expr.specs.PlanLaws.{IsKeptBy, numbered_nodes, ValidPlansAreKept}
-use Rattle.col_expr.specs.Folded.{unit_step_for, step_of, goes_on, turns_back, Numbered, cast_operand, under_cast, cast_over, is_type, is_covered, fold_cast, folded_by, plan_if, folded}
+use Rattle.col_expr.specs.Folded.{unit_step_for, step_of, goes_on, turns_back, Numbered, cast_operand, under_cast, cast_over, is_type, is_covered, joined_operand, fold_cast, folded_by, plan_if, folded}
 use Rattle.col_expr.specs.FoldLaws.{FoldingChangesNoAnswer}
 use Rattle.col_expr.proofs.FoldFacts.{Facts, facts, cast_facts, same_cast, same_binary, same_right, same_left, same_unit_change, same_shift, refused_cast, refused_binary, refused_right, refused_left, refused_unit_change, same_column}
-use Rattle.col_expr.proofs.FoldSteps.{OneWay, goes_on-parts, some_is, IsStep, step_is, step_told, joined_step}
+use Rattle.col_expr.proofs.FoldSteps.{OneWay, goes_on-parts, both_finer, finer_first, some_is, IsStep, step_is, step_told, joined_step}
 use Rattle.col_expr.proofs.FoldTurns.{turned_back, covered_below, covered_keeps, All-left, All-right, All-last}
 
 -- ---- what a plan says of a part of a tree
@@ -95,63 +95,75 @@ trusted_both inputs plan numbers l r tree rules kept =
 abbrev NotFiner : List Column → Tree → Type 0
 NotFiner inputs tree = (m : ℕ) → step_of inputs tree ≡ Some (Finer m) → ⊥
 
--- a step to a finer unit at the root has the root's number, stands over no other, and loses no slot
--- of what stands under it where it is covered
-record FinerRoot (inputs : List Column) (plan : Plan) (numbers : Numbers) (f : Numbered)
-    (e : Tree) : Type 0 where
-  number : number_at f.numbers ≡ number_at numbers
-  alone : NotFiner inputs (cast_operand f.tree)
-  lossless : is_covered plan (number_at numbers) ≡ true → (row : ℕ) (x : Value) →
-      slot_at inputs (cast_operand f.tree) row ≡ Some x →
-      (y : Value) × (slot_at inputs e row ≡ Some y)
+-- a step to a finer unit stands over no other, and loses no slot where it is covered
+record FinerStep (inputs : List Column) (plan : Plan) (number : ℕ) (g tree : Tree) : Type 0 where
+  alone : NotFiner inputs g
+  lossless : is_covered plan number ≡ true → (row : ℕ) (x : Value) →
+      slot_at inputs g row ≡ Some x → (y : Value) × (slot_at inputs tree row ≡ Some y)
 
--- a folded tree has the column and the first refusal of the tree
+-- the same of each step in the chain of casts at the root
+abbrev Careful : List Column → Plan → Numbers → Tree → Type 0
+Careful inputs plan numbers (Cast g d o) =
+    ((m : ℕ) → step_of inputs (Cast g d o) ≡ Some (Finer m) →
+    FinerStep inputs plan (number_at numbers) g (Cast g d o))
+    × Careful inputs plan (below numbers) g
+Careful inputs plan numbers (Input index) = Unit {0}
+Careful inputs plan numbers (Binary op l r) = Unit {0}
+Careful inputs plan numbers (ScalarRight g op k) = Unit {0}
+Careful inputs plan numbers (ScalarLeft k op g) = Unit {0}
+Careful inputs plan numbers (InUnit g unit) = Unit {0}
+Careful inputs plan numbers (Shift g periods) = Unit {0}
+
+-- a folded tree has the column and the first refusal of the tree; a step to a finer unit at its root
+-- has the root's number
 pub record IsFoldedAs (inputs : List Column) (plan : Plan) (numbers : Numbers) (f : Numbered)
     (e : Tree) : Type 0 where
   pub same : facts inputs f.tree ≡ facts inputs e
   pub refused : first_refusal inputs f.numbers f.tree ≡ first_refusal inputs numbers e
-  root : (m : ℕ) → step_of inputs f.tree ≡ Some (Finer m) → FinerRoot inputs plan numbers f e
+  careful : Careful inputs plan f.numbers f.tree
+  number : (m : ℕ) → step_of inputs f.tree ≡ Some (Finer m) →
+      number_at f.numbers ≡ number_at numbers
 
--- ---- a cast that stays
+-- ---- a cast that stands over its operand
 
 stays : (inputs : List Column) (plan : Plan) (numbers : Numbers) (e : Tree) (c : DataType)
     (o : CastOptions) (f : Numbered) → TrustedOver inputs plan numbers e (Cast e c o) →
     IsFoldedAs inputs plan (below numbers) f e →
     ((m : ℕ) → step_of inputs (Cast f.tree c o) ≡ Some (Finer m) → NotFiner inputs f.tree) →
     IsFoldedAs inputs plan numbers (cast_over (number_at numbers) f c o) (Cast e c o)
-stays inputs plan numbers e c o f trusted is alone = record {
-  same = same_cast inputs f.tree e c o is.same;
-  refused = λ i. option_or (is.refused i)
-      (refused_cast inputs (number_at numbers) f.tree e c o is.same i);
-  root = λ m h. record {
-    number = refl;
-    alone = alone m h;
-    lossless = λ covered row x there.
-        covered_keeps inputs plan numbers e c o trusted.keeps covered row x
-        (sym (ap (λ (x : Facts). x.slot row) is.same) ∙ there);
-  };
-}
+stays inputs plan numbers e c o f trusted is alone =
+    let same = same_cast inputs f.tree e c o is.same in
+    record {
+      same = same;
+      refused = λ i. option_or (is.refused i)
+          (refused_cast inputs (number_at numbers) f.tree e c o is.same i);
+      careful = ((λ m h. record {
+          alone = alone m h;
+          lossless = λ covered row x there.
+              let y = covered_keeps inputs plan numbers e c o trusted.keeps covered row x
+                  (sym (ap (λ (x : Facts). x.slot row) is.same) ∙ there) in
+              (y.0, ap (λ (x : Facts). x.slot row) same ∙ y.1);
+        }), is.careful);
+      number = λ m h. refl;
+    }
 
--- ---- a cast that is joined with the one under it, or left out with it
+-- ---- a cast that is joined with its operand
 
 option_or-none : (refused : Option EvalError) → option_or refused None ≡ refused
 option_or-none None = refl
 option_or-none (Some error) = refl
 
 -- two steps are not refused: the first refusal is that of what stands under them
-under_steps : (inputs : List Column) (plan : Plan) (numbers ns : Numbers) (e g : Tree)
-    (b c : DataType) (first o : CastOptions) (s t : UnitChange) →
-    IsFoldedAs inputs plan (below numbers) (record { tree = Cast g b first; numbers = ns }) e →
-    IsStep (facts inputs g) first b s → IsStep (facts inputs (Cast g b first)) o c t →
-    first_refusal inputs (below ns) g ≡ first_refusal inputs numbers (Cast e c o)
-under_steps inputs plan numbers ns e g b c first o s t is one two =
+under_steps : (inputs : List Column) (node : ℕ) (ns : Numbers) (g : Tree) (b c : DataType)
+    (first o : CastOptions) (s t : UnitChange) → IsStep (facts inputs g) first b s →
+    IsStep (facts inputs (Cast g b first)) o c t →
+    first_refusal inputs (below ns) g
+    ≡ first_refusal inputs (Over node ns) (Cast (Cast g b first) c o)
+under_steps inputs node ns g b c first o s t one two =
     sym (option_or-none (first_refusal inputs (below ns) g))
     ∙ ap (option_or (first_refusal inputs (below ns) g)) (sym (one.unrefused (number_at ns)))
-    ∙ is.refused
-    ∙ sym (option_or-none (first_refusal inputs (below numbers) e))
-    ∙ ap (option_or (first_refusal inputs (below numbers) e))
-    (sym (two.unrefused (number_at numbers))
-    ∙ refused_cast inputs (number_at numbers) (Cast g b first) e c o is.same)
+    ∙ sym (option_or-none (first_refusal inputs ns (Cast g b first)))
+    ∙ ap (option_or (first_refusal inputs ns (Cast g b first))) (sym (two.unrefused node))
 
 joined : (inputs : List Column) (plan : Plan) (numbers ns : Numbers) (e g : Tree)
     (b c : DataType) (first o : CastOptions) (s t : UnitChange) →
@@ -163,53 +175,39 @@ joined : (inputs : List Column) (plan : Plan) (numbers ns : Numbers) (e g : Tree
     (record { tree = Cast g c o; numbers = Over (number_at numbers) (below ns) }) (Cast e c o)
 joined inputs plan numbers ns e g b c first o s t trusted is one two way =
     let j = joined_step (facts inputs g) first o b c s t one two way in
+    let same = j.same ∙ same_cast inputs (Cast g b first) e c o is.same in
     record {
-      same = j.same ∙ same_cast inputs (Cast g b first) e c o is.same;
+      same = same;
       refused = ap (option_or (first_refusal inputs (below ns) g))
           (j.is_step.unrefused (number_at numbers))
           ∙ option_or-none (first_refusal inputs (below ns) g)
-          ∙ under_steps inputs plan numbers ns e g b c first o s t is one two;
-      root = λ m h.
-          let both = j.finer m (some_is _ _ (sym (step_told (facts inputs g) o c j.step j.is_step) ∙ h)) in
-          let inner = is.root both.0
-              (step_told (facts inputs g) first b s one ∙ ap Some both.2) in
+          ∙ under_steps inputs (number_at numbers) ns g b c first o s t one two
+          ∙ (λ i. option_or (is.refused i)
+          (refused_cast inputs (number_at numbers) (Cast g b first) e c o is.same i));
+      careful = ((λ m h.
+          let fine = some_is _ _
+              (sym (step_told (facts inputs g) o c j.step j.is_step) ∙ h) in
+          let lower = finer_first s j.step m j.way fine in
+          let upper = both_finer s t lower.0 way lower.1 in
+          let below_is = step_told (facts inputs g) first b s one ∙ ap Some lower.1 in
+          let inner = is.careful.0 lower.0 below_is in
           let P : UnitChange → Type 0 = λ u. IsStep (facts inputs (Cast g b first)) o c u in
-          let Q : Facts → Type 0 = λ u. IsStep u o c (Finer both.1) in
-          let above : IsStep (facts inputs e) o c (Finer both.1) =
-          subst Q is.same (subst P both.3 two) in
+          let Q : Facts → Type 0 = λ u. IsStep u o c (Finer upper.0) in
+          let above : IsStep (facts inputs e) o c (Finer upper.0) =
+          subst Q is.same (subst P upper.1 two) in
           record {
-            number = refl;
             alone = inner.alone;
             lossless = λ covered row x there.
-                let under = covered_below inputs plan numbers e c o both.1 above trusted.holds
+                let under = covered_below inputs plan numbers e c o upper.0 above trusted.holds
                     covered in
-                let y = inner.lossless under row x there in
-                covered_keeps inputs plan numbers e c o trusted.keeps covered row y.0 y.1;
-          };
+                let y = inner.lossless
+                    (ap (is_covered plan) (is.number lower.0 below_is) ∙ under) row x there in
+                let z = covered_keeps inputs plan numbers e c o trusted.keeps covered row y.0
+                    (sym (ap (λ (f : Facts). f.slot row) is.same) ∙ y.1) in
+                (z.0, ap (λ (f : Facts). f.slot row) same ∙ z.1);
+          }), is.careful.1);
+      number = λ m h. refl;
     }
-
-left_out : (inputs : List Column) (plan : Plan) (numbers ns : Numbers) (e g : Tree)
-    (b c : DataType) (first o : CastOptions) (m n : ℕ) →
-    IsFoldedAs inputs plan (below numbers) (record { tree = Cast g b first; numbers = ns }) e →
-    IsStep (facts inputs g) first b (Finer m) →
-    IsStep (facts inputs (Cast g b first)) o c (Coarser n) →
-    is_type (dtype_of inputs g) c ≡ true → is_covered plan (number_at ns) ≡ true →
-    IsFoldedAs inputs plan numbers (record { tree = g; numbers = below ns }) (Cast e c o)
-left_out inputs plan numbers ns e g b c first o m n is one two same covered =
-    let inner = is.root m (step_told (facts inputs g) first b (Finer m) one) in
-    let under : is_covered plan (number_at (below numbers)) ≡ true =
-    ap (is_covered plan) (sym inner.number) ∙ covered in
-    record {
-      same = turned_back (facts inputs g) first o b c m n one two same
-          (λ row x there.
-          let y = inner.lossless under row x there in
-          (y.0, ap (λ (f : Facts). f.slot row) is.same ∙ y.1))
-          ∙ same_cast inputs (Cast g b first) e c o is.same;
-      refused = under_steps inputs plan numbers ns e g b c first o (Finer m) (Coarser n) is one two;
-      root = λ k h. absurd (inner.alone k h);
-    }
-
--- ---- a cast
 
 record GoOn (p q : Option UnitChange) : Type 0 where
   s : UnitChange
@@ -226,6 +224,37 @@ go_on (Some (Finer m)) None h = cc
 go_on (Some Same) None h = cc
 go_on (Some (Coarser m)) None h = cc
 
+not_both : (p q : Option UnitChange) (k m : ℕ) → goes_on p q ≡ false → q ≡ Some (Finer m) →
+    p ≡ Some (Finer k) → ⊥
+not_both p q k m h second first = cc (rw (first, second) at h)
+
+-- a cast over what it stands over once it is joined
+join_by : (inputs : List Column) (plan : Plan) (numbers : Numbers) (e : Tree) (c : DataType)
+    (o : CastOptions) (tree : Tree) (ns : Numbers) →
+    TrustedOver inputs plan numbers e (Cast e c o) →
+    IsFoldedAs inputs plan (below numbers) (record { tree = tree; numbers = ns }) e →
+    (on : Bool) → goes_on (step_of inputs tree) (step_of inputs (Cast tree c o)) ≡ on →
+    IsFoldedAs inputs plan numbers
+    (cast_over (number_at numbers) (if on then under_cast (record { tree = tree; numbers = ns })
+    else record { tree = tree; numbers = ns }) c o) (Cast e c o)
+join_by inputs plan numbers e c o tree ns trusted is false h =
+    stays inputs plan numbers e c o (record { tree = tree; numbers = ns }) trusted is
+    (λ m second k first.
+    not_both (step_of inputs tree) (step_of inputs (Cast tree c o)) k m h second first)
+join_by inputs plan numbers e c o (Cast g b first) ns trusted is true h =
+    let go = go_on (step_of inputs (Cast g b first)) (step_of inputs (Cast (Cast g b first) c o)) h in
+    joined inputs plan numbers ns e g b c first o go.s go.t trusted is
+    (step_is (facts inputs g) first b go.s go.first)
+    (step_is (facts inputs (Cast g b first)) o c go.t go.second) go.way
+join_by inputs plan numbers e c o (Input index) ns trusted is true h = cc
+join_by inputs plan numbers e c o (Binary op l r) ns trusted is true h = cc
+join_by inputs plan numbers e c o (ScalarRight g op k) ns trusted is true h = cc
+join_by inputs plan numbers e c o (ScalarLeft k op g) ns trusted is true h = cc
+join_by inputs plan numbers e c o (InUnit g unit) ns trusted is true h = cc
+join_by inputs plan numbers e c o (Shift g periods) ns trusted is true h = cc
+
+-- ---- a cast that turns back its operand
+
 record TurnBack (p q : Option UnitChange) : Type 0 where
   m : ℕ
   n : ℕ
@@ -237,81 +266,65 @@ turn_back (Some (Finer m)) (Some (Coarser n)) h =
     record { m = m; n = n; first = refl; second = refl }
 turn_back p q h = cc
 
-not_both : (p q : Option UnitChange) (k m : ℕ) → goes_on p q ≡ false → q ≡ Some (Finer m) →
-    p ≡ Some (Finer k) → ⊥
-not_both p q k m h second first = cc (rw (first, second) at h)
-
-cast_by : (inputs : List Column) (plan : Plan) (numbers ns : Numbers) (e g : Tree)
+left_out : (inputs : List Column) (plan : Plan) (numbers ns : Numbers) (node : ℕ) (whole g : Tree)
     (b c : DataType) (first o : CastOptions) →
-    TrustedOver inputs plan numbers e (Cast e c o) →
-    IsFoldedAs inputs plan (below numbers) (record { tree = Cast g b first; numbers = ns }) e →
     IsFoldedAs inputs plan numbers
-    (fold_cast inputs plan (number_at numbers) (record { tree = Cast g b first; numbers = ns }) c o)
-    (Cast e c o)
-cast_by inputs plan numbers ns e g b c first o trusted is =
-    by_tests (goes_on p q) (turns_back p q) (is_type (dtype_of inputs g) c)
-    (is_covered plan (number_at ns)) refl refl refl refl
-  where
-    p : Option UnitChange
-    p = step_of inputs (Cast g b first)
+    (record { tree = Cast (Cast g b first) c o; numbers = Over node ns }) whole →
+    TurnBack (step_of inputs (Cast g b first)) (step_of inputs (Cast (Cast g b first) c o)) →
+    is_type (dtype_of inputs g) c ≡ true → is_covered plan (number_at ns) ≡ true →
+    IsFoldedAs inputs plan numbers (record { tree = g; numbers = below ns }) whole
+left_out inputs plan numbers ns node whole g b c first o is turn same covered =
+    let one = step_is (facts inputs g) first b (Finer turn.m) turn.first in
+    let two = step_is (facts inputs (Cast g b first)) o c (Coarser turn.n) turn.second in
+    let inner = is.careful.1.0 turn.m turn.first in
+    record {
+      same = turned_back (facts inputs g) first o b c turn.m turn.n one two same
+          (λ row x there. inner.lossless covered row x there) ∙ is.same;
+      refused = under_steps inputs node ns g b c first o (Finer turn.m) (Coarser turn.n) one two
+          ∙ is.refused;
+      careful = is.careful.1.1;
+      number = λ k h. absurd (inner.alone k h);
+    }
 
-    q : Option UnitChange
-    q = step_of inputs (Cast (Cast g b first) c o)
+turn_by : (inputs : List Column) (plan : Plan) (numbers : Numbers) (node : ℕ) (whole : Tree)
+    (c : DataType) (o : CastOptions) (tree : Tree) (ns : Numbers) →
+    IsFoldedAs inputs plan numbers
+    (cast_over node (record { tree = tree; numbers = ns }) c o) whole →
+    (turn same covered : Bool) →
+    turns_back (step_of inputs tree) (step_of inputs (Cast tree c o)) ≡ turn →
+    is_type (dtype_of inputs (cast_operand tree)) c ≡ same →
+    is_covered plan (number_at ns) ≡ covered →
+    IsFoldedAs inputs plan numbers
+    (if turn && same && covered then under_cast (record { tree = tree; numbers = ns })
+    else cast_over node (record { tree = tree; numbers = ns }) c o) whole
+turn_by inputs plan numbers node whole c o tree ns is false same covered ht hs hc = is
+turn_by inputs plan numbers node whole c o tree ns is true false covered ht hs hc = is
+turn_by inputs plan numbers node whole c o tree ns is true true false ht hs hc = is
+turn_by inputs plan numbers node whole c o (Cast g b first) ns is true true true ht hs hc =
+    left_out inputs plan numbers ns node whole g b c first o is
+    (turn_back (step_of inputs (Cast g b first)) (step_of inputs (Cast (Cast g b first) c o)) ht)
+    hs hc
+turn_by inputs plan numbers node whole c o (Input index) ns is true true true ht hs hc = cc
+turn_by inputs plan numbers node whole c o (Binary op l r) ns is true true true ht hs hc = cc
+turn_by inputs plan numbers node whole c o (ScalarRight g op k) ns is true true true ht hs hc = cc
+turn_by inputs plan numbers node whole c o (ScalarLeft k op g) ns is true true true ht hs hc = cc
+turn_by inputs plan numbers node whole c o (InUnit g unit) ns is true true true ht hs hc = cc
+turn_by inputs plan numbers node whole c o (Shift g periods) ns is true true true ht hs hc = cc
 
-    as_it_is : goes_on (step_of inputs (Cast g b first))
-        (step_of inputs (Cast (Cast g b first) c o)) ≡ false →
-        IsFoldedAs inputs plan numbers
-        (cast_over (number_at numbers) (record { tree = Cast g b first; numbers = ns }) c o)
-        (Cast e c o)
-    as_it_is h = stays inputs plan numbers e c o (record { tree = Cast g b first; numbers = ns })
-        trusted is (λ m second k first_is.
-        not_both (step_of inputs (Cast g b first)) (step_of inputs (Cast (Cast g b first) c o)) k m
-        h second first_is)
-
-    by_tests : (x y z w : Bool) →
-        goes_on (step_of inputs (Cast g b first)) (step_of inputs (Cast (Cast g b first) c o)) ≡ x →
-        turns_back (step_of inputs (Cast g b first)) (step_of inputs (Cast (Cast g b first) c o)) ≡ y →
-        is_type (dtype_of inputs g) c ≡ z → is_covered plan (number_at ns) ≡ w →
-        IsFoldedAs inputs plan numbers
-        (if x then record { tree = Cast g c o; numbers = Over (number_at numbers) (below ns) }
-        else if y && z && w then record { tree = g; numbers = below ns }
-        else cast_over (number_at numbers) (record { tree = Cast g b first; numbers = ns }) c o)
-        (Cast e c o)
-    by_tests true y z w hx hy hz hw =
-        let go = go_on (step_of inputs (Cast g b first)) (step_of inputs (Cast (Cast g b first) c o)) hx in
-        joined inputs plan numbers ns e g b c first o go.s go.t trusted is
-        (step_is (facts inputs g) first b go.s go.first)
-        (step_is (facts inputs (Cast g b first)) o c go.t go.second) go.way
-    by_tests false true true true hx hy hz hw =
-        let turn = turn_back (step_of inputs (Cast g b first)) (step_of inputs (Cast (Cast g b first) c o)) hy in
-        left_out inputs plan numbers ns e g b c first o turn.m turn.n is
-        (step_is (facts inputs g) first b (Finer turn.m) turn.first)
-        (step_is (facts inputs (Cast g b first)) o c (Coarser turn.n) turn.second) hz hw
-    by_tests false false z w hx hy hz hw = as_it_is hx
-    by_tests false true false w hx hy hz hw = as_it_is hx
-    by_tests false true true false hx hy hz hw = as_it_is hx
+-- ---- a cast
 
 cast_good : (inputs : List Column) (plan : Plan) (numbers : Numbers) (e : Tree) (c : DataType)
-    (o : CastOptions) (tree : Tree) (ns : Numbers) →
-    TrustedOver inputs plan numbers e (Cast e c o) →
-    IsFoldedAs inputs plan (below numbers) (record { tree = tree; numbers = ns }) e →
-    IsFoldedAs inputs plan numbers
-    (fold_cast inputs plan (number_at numbers) (record { tree = tree; numbers = ns }) c o)
-    (Cast e c o)
-cast_good inputs plan numbers e c o (Cast g b first) ns trusted is =
-    cast_by inputs plan numbers ns e g b c first o trusted is
-cast_good inputs plan numbers e c o (Input index) ns trusted is =
-    stays inputs plan numbers e c o _ trusted is (λ m second k h. cc)
-cast_good inputs plan numbers e c o (Binary op l r) ns trusted is =
-    stays inputs plan numbers e c o _ trusted is (λ m second k h. cc)
-cast_good inputs plan numbers e c o (ScalarRight g op k) ns trusted is =
-    stays inputs plan numbers e c o _ trusted is (λ m second k h. cc)
-cast_good inputs plan numbers e c o (ScalarLeft k op g) ns trusted is =
-    stays inputs plan numbers e c o _ trusted is (λ m second k h. cc)
-cast_good inputs plan numbers e c o (InUnit g unit) ns trusted is =
-    stays inputs plan numbers e c o _ trusted is (λ m second k h. cc)
-cast_good inputs plan numbers e c o (Shift g periods) ns trusted is =
-    stays inputs plan numbers e c o _ trusted is (λ m second k h. cc)
+    (o : CastOptions) (f : Numbered) → TrustedOver inputs plan numbers e (Cast e c o) →
+    IsFoldedAs inputs plan (below numbers) f e →
+    IsFoldedAs inputs plan numbers (fold_cast inputs plan (number_at numbers) f c o) (Cast e c o)
+cast_good inputs plan numbers e c o f trusted is =
+    let inner = joined_operand inputs f c o in
+    turn_by inputs plan numbers (number_at numbers) (Cast e c o) c o inner.tree inner.numbers
+    (join_by inputs plan numbers e c o f.tree f.numbers trusted is
+    (goes_on (step_of inputs f.tree) (step_of inputs (Cast f.tree c o))) refl)
+    (turns_back (step_of inputs inner.tree) (step_of inputs (Cast inner.tree c o)))
+    (is_type (dtype_of inputs (cast_operand inner.tree)) c)
+    (is_covered plan (number_at inner.numbers)) refl refl refl
 
 -- ---- the induction
 
@@ -319,11 +332,10 @@ pub folded_good : (inputs : List Column) (plan : Plan) (numbers : Numbers) (tree
     IsTrusted inputs plan numbers tree →
     IsFoldedAs inputs plan numbers (folded_by inputs plan numbers tree) tree
 folded_good inputs plan numbers (Input index) trusted =
-    record { same = refl; refused = refl; root = λ m h. cc }
+    record { same = refl; refused = refl; careful = tt; number = λ m h. cc }
 folded_good inputs plan numbers (Cast e c o) trusted =
     let t = trusted_over inputs plan numbers e (Cast e c o) trusted.rules trusted.kept in
-    let f = folded_by inputs plan (below numbers) e in
-    cast_good inputs plan numbers e c o f.tree f.numbers t
+    cast_good inputs plan numbers e c o (folded_by inputs plan (below numbers) e) t
     (folded_good inputs plan (below numbers) e t.under)
 folded_good inputs plan numbers (Binary op l r) trusted =
     let t = trusted_both inputs plan numbers l r (Binary op l r) trusted.rules trusted.kept in
@@ -335,7 +347,8 @@ folded_good inputs plan numbers (Binary op l r) trusted =
       same = same_binary inputs op x y l r a.same b.same;
       refused = λ i. option_or (a.refused i) (option_or (b.refused i)
           (refused_binary inputs (number_at numbers) op x y l r a.same b.same i));
-      root = λ m h. cc;
+      careful = tt;
+      number = λ m h. cc;
     }
 folded_good inputs plan numbers (ScalarRight e op k) trusted =
     let t = trusted_over inputs plan numbers e (ScalarRight e op k) trusted.rules trusted.kept in
@@ -345,7 +358,8 @@ folded_good inputs plan numbers (ScalarRight e op k) trusted =
       same = same_right inputs x e op k a.same;
       refused = λ i. option_or (a.refused i)
           (refused_right inputs (number_at numbers) x e op k a.same i);
-      root = λ m h. cc;
+      careful = tt;
+      number = λ m h. cc;
     }
 folded_good inputs plan numbers (ScalarLeft k op e) trusted =
     let t = trusted_over inputs plan numbers e (ScalarLeft k op e) trusted.rules trusted.kept in
@@ -355,7 +369,8 @@ folded_good inputs plan numbers (ScalarLeft k op e) trusted =
       same = same_left inputs k op x e a.same;
       refused = λ i. option_or (a.refused i)
           (refused_left inputs (number_at numbers) k op x e a.same i);
-      root = λ m h. cc;
+      careful = tt;
+      number = λ m h. cc;
     }
 folded_good inputs plan numbers (InUnit e unit) trusted =
     let t = trusted_over inputs plan numbers e (InUnit e unit) trusted.rules trusted.kept in
@@ -365,7 +380,8 @@ folded_good inputs plan numbers (InUnit e unit) trusted =
       same = same_unit_change inputs x e unit a.same;
       refused = λ i. option_or (a.refused i)
           (refused_unit_change inputs (number_at numbers) x e unit a.same i);
-      root = λ m h. cc;
+      careful = tt;
+      number = λ m h. cc;
     }
 folded_good inputs plan numbers (Shift e periods) trusted =
     let t = trusted_over inputs plan numbers e (Shift e periods) trusted.rules trusted.kept in
@@ -374,7 +390,8 @@ folded_good inputs plan numbers (Shift e periods) trusted =
     record {
       same = same_shift inputs x e periods a.same;
       refused = λ i. option_or (a.refused i) None;
-      root = λ m h. cc;
+      careful = tt;
+      number = λ m h. cc;
     }
 
 -- ---- plans

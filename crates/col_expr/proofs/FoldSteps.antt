@@ -1,5 +1,5 @@
 -- Casts from unit to unit: what they give, two that go on, and two that turn back.
-use Rattle.std.proofs.Common.{◌≡◌, ◌≢◌, ℕ, ◌+◌, ◌<◌, ◌≤◌, Bool, true, false, ◌&&◌, List, [], ◌∷◌, map, Option, Some, None, is_some, is_none, ◌⊎◌, inl, inr, refl, sym, ap, ◌∙◌, subst, arith, nat_lt, nat_le}
+use Rattle.std.proofs.Common.{◌≡◌, ◌≢◌, ℕ, ◌+◌, ◌<◌, ◌≤◌, Bool, true, false, ◌&&◌, List, [], ◌∷◌, map, Option, Some, None, is_some, is_none, ◌⊎◌, inl, inr, refl, sym, ap, ◌∙◌, subst, arith, nat_lt, nat_le, ◌/◌, lt-ltb}
 use Rattle.std.specs.Prelude.{if◌then◌else◌}
 use Rattle.std.specs.Option.{option_map}
 use Rattle.std.specs.List.{range_with_len}
@@ -289,32 +289,51 @@ two_steps (Duration u) (Duration v) (Duration w) s t slot h k (inr way) =
     coarser_lengths_one u v (w ∷ []) slot (and_from _ _ p (and_from _ _ q refl))
 two_steps a b c s t slot h k way = cc
 
--- their step together
-pub record Together (a c : DataType) (s t : UnitChange) : Type 0 where
+-- their step together goes the same way
+pub record Together (a c : DataType) (s : UnitChange) : Type 0 where
   pub step : UnitChange
   pub pair : unit_step a c ≡ Some step
-  pub finer : (m : ℕ) → step ≡ Finer m → (k : ℕ) × (n : ℕ) × (s ≡ Finer k) × (t ≡ Finer n)
+  pub way : OneWay s step
 
-finer_together : (u v w : TimeUnit) → OneWay (unit_change u v) (unit_change v w) → (m : ℕ) →
-    unit_change u w ≡ Finer m →
-    (k : ℕ) × (n : ℕ) × (unit_change u v ≡ Finer k) × (unit_change v w ≡ Finer n)
+finer_is : (u v : TimeUnit) → nanos_per_tick v < nanos_per_tick u →
+    unit_change u v ≡ Finer (nanos_per_tick u / nanos_per_tick v)
+finer_is u v h =
+    ap (λ b. if b then Finer (nanos_per_tick u / nanos_per_tick v)
+    else if nat_lt (nanos_per_tick u) (nanos_per_tick v)
+    then Coarser (nanos_per_tick v / nanos_per_tick u) else Same)
+    (lt-ltb (nanos_per_tick v) (nanos_per_tick u) h)
+
+coarser_is : (u v : TimeUnit) → nanos_per_tick u < nanos_per_tick v →
+    unit_change u v ≡ Coarser (nanos_per_tick v / nanos_per_tick u)
+coarser_is u v h =
+    let other : nat_lt (nanos_per_tick v) (nanos_per_tick u) ≡ false = grind (arith, nat_tests) in
+    ap (λ b. if b then Finer (nanos_per_tick u / nanos_per_tick v)
+    else if nat_lt (nanos_per_tick u) (nanos_per_tick v)
+    then Coarser (nanos_per_tick v / nanos_per_tick u) else Same) other
+    ∙ ap (λ b. if b then Coarser (nanos_per_tick v / nanos_per_tick u) else Same)
+    (lt-ltb (nanos_per_tick u) (nanos_per_tick v) h)
+
+units_together : (u v w : TimeUnit) → OneWay (unit_change u v) (unit_change v w) →
+    OneWay (unit_change u v) (unit_change u w)
 unfolding OneWay
-finer_together u v w (inl way) m h = way
-finer_together u v w (inr way) m h =
+units_together u v w (inl way) =
+    let p = finer_way u v way.0 way.2 in
+    let q = finer_way v w way.1 way.3 in
+    inl (way.0, nanos_per_tick u / nanos_per_tick w, way.2, finer_is u w (omega arith))
+units_together u v w (inr way) =
     let p = coarser_way u v way.0 way.2 in
     let q = coarser_way v w way.1 way.3 in
-    let r = finer_way u w m h in
-    absurd (omega arith)
+    inr (way.0, nanos_per_tick w / nanos_per_tick u, way.2, coarser_is u w (omega arith))
 
 one_step : (a b c : DataType) (s t : UnitChange) → unit_step a b ≡ Some s →
-    unit_step b c ≡ Some t → OneWay s t → Together a c s t
+    unit_step b c ≡ Some t → OneWay s t → Together a c s
 one_step (Datetime u x) (Datetime v y) (Datetime w z) s t h k way =
     let p : unit_change u v ≡ s = some_is _ _ h in
     let q : unit_change v w ≡ t = some_is _ _ k in
     record {
       step = unit_change u w;
       pair = refl;
-      finer = λ m e. rw (← p, ← q) (finer_together u v w (rw (p, q) way) m e);
+      way = rw (← p) (units_together u v w (rw (p, q) way));
     }
 one_step (Duration u) (Duration v) (Duration w) s t h k way =
     let p : unit_change u v ≡ s = some_is _ _ h in
@@ -322,9 +341,28 @@ one_step (Duration u) (Duration v) (Duration w) s t h k way =
     record {
       step = unit_change u w;
       pair = refl;
-      finer = λ m e. rw (← p, ← q) (finer_together u v w (rw (p, q) way) m e);
+      way = rw (← p) (units_together u v w (rw (p, q) way));
     }
 one_step a b c s t h k way = cc
+
+-- where one step leads to a finer unit, so does another that goes its way
+pub both_finer : (s t : UnitChange) (m : ℕ) → OneWay s t → s ≡ Finer m →
+    (n : ℕ) × (t ≡ Finer n)
+unfolding OneWay
+both_finer s t m (inl way) h = (way.1, way.3)
+both_finer s t m (inr way) h = cc (sym h ∙ way.2)
+
+pub finer_first : (s t : UnitChange) (m : ℕ) → OneWay s t → t ≡ Finer m →
+    (n : ℕ) × (s ≡ Finer n)
+unfolding OneWay
+finer_first s t m (inl way) h = (way.0, way.2)
+finer_first s t m (inr way) h = cc (sym h ∙ way.3)
+
+pub both_coarser : (s t : UnitChange) (m : ℕ) → OneWay s t → s ≡ Coarser m →
+    (n : ℕ) × (t ≡ Coarser n)
+unfolding OneWay
+both_coarser s t m (inl way) h = cc (sym h ∙ way.2)
+both_coarser s t m (inr way) h = (way.1, way.3)
 
 kept_twice : (p q : Bool) (flag : IsSorted) → kept_flag (p && q) flag ≡ kept_flag q (kept_flag p flag)
 kept_twice true q flag = refl
@@ -354,17 +392,17 @@ twice_facts f a b c two =
     }
 
 pub record IsJoined (f : Facts) (options second : CastOptions) (target last : DataType)
-    (s t : UnitChange) : Type 0 where
+    (s : UnitChange) : Type 0 where
   pub step : UnitChange
   pub is_step : IsStep f second last step
-  pub finer : (m : ℕ) → step ≡ Finer m → (k : ℕ) × (n : ℕ) × (s ≡ Finer k) × (t ≡ Finer n)
+  pub way : OneWay s step
   pub same : cast_facts last second f ≡ cast_facts last second (cast_facts target options f)
 
 -- two steps that go on are one cast
 pub joined_step : (f : Facts) (options second : CastOptions) (target last : DataType)
     (s t : UnitChange) → IsStep f options target s →
     IsStep (cast_facts target options f) second last t → OneWay s t →
-    IsJoined f options second target last s t
+    IsJoined f options second target last s
 joined_step f options second target last s t one two way =
     let between : two.from ≡ target =
     some_is _ _ (sym two.typed ∙ ap (λ (g : Facts). g.dtype) one.column) in
@@ -375,7 +413,7 @@ joined_step f options second target last s t one two way =
     record {
       step = both.step;
       is_step = subst P (sym two.free) step;
-      finer = both.finer;
+      way = both.way;
       same = ap (λ o. cast_facts last o f) two.free ∙ step_column f last one.from both.step one.typed two.good both.pair
           ∙ twice_facts f one.from target last
           (λ slot. two_steps one.from target last s t slot one.pair pair way)

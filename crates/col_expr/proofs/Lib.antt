@@ -11,3 +11,4 @@ pub mod FoldFacts
 pub mod FoldSteps
 pub mod FoldTurns
 pub mod FoldLemmas
+pub mod FoldWaiting

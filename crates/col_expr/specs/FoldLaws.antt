@@ -1,8 +1,16 @@
--- That folding changes no answer.
-use Rattle.std.specs.Prelude.{◌≡◌, List}
+-- That folding changes no answer, and steps by hand.
+use Rattle.std.specs.Prelude.{◌≡◌, ℕ, ℤ, pos, ◌^◌, ◌-◌, List, [], ◌∷◌, map, codes, Some, None}
 use Rattle.std.specs.List.{All}
+use Rattle.col_types.specs.declared.data_type.DataType.{Datetime}
+use Rattle.col_types.specs.declared.cast_options.CastOptions.TheVariants.{Strict, NonStrict}
+use Rattle.col_types.specs.declared.time_unit.TimeUnit.{TimeUnit}
+use Rattle.col_types.specs.declared.time_unit.TimeUnit.TheVariants.{Nanoseconds, Microseconds, Milliseconds}
+use Rattle.col_types.specs.declared.is_sorted.IsSorted.TheVariants.{Not}
+use Rattle.col_model.specs.Arithmetic.{Interval}
+use Rattle.col_model.specs.Value.{whole}
 use Rattle.col_model.specs.Column.{Column, IsValidColumn}
-use Rattle.col_expr.specs.Tree.{Tree}
+use Rattle.col_expr.specs.Tree.{Tree, Input, Cast, Shift}
+use Rattle.col_expr.specs.Meaning.{step_count}
 use Rattle.col_expr.specs.Plan.{Plan}
 use Rattle.col_expr.specs.Refusal.{outcome_by, outcome}
 use Rattle.col_expr.specs.Folded.{folded}
@@ -13,3 +21,63 @@ FoldingChangesNoAnswer =
     (inputs : List Column) (plan : Plan) (tree : Tree) → All IsValidColumn inputs →
     outcome_by inputs (folded inputs plan tree).numbers (folded inputs plan tree).tree
     ≡ outcome inputs tree
+
+-- ---- by hand
+
+-- a column of moments in milliseconds
+abbrev pub in_milliseconds : List ℤ → List Column
+in_milliseconds ticks = record {
+  name = codes "a";
+  dtype = Datetime Milliseconds None;
+  slots = map (λ tick. Some (whole tick)) ticks;
+  flag = Not;
+} ∷ []
+
+-- moments in another unit, null where a value has no room there
+abbrev pub to : TimeUnit → Tree → Tree
+to unit operand = Cast operand (Datetime unit None) NonStrict
+
+-- the steps of the folded tree
+abbrev pub folded_steps : List Column → Plan → Tree → ℕ
+folded_steps inputs plan tree = step_count inputs (folded inputs plan tree).tree
+
+-- the node of this number lies between two integers
+abbrev pub between : ℕ → ℤ → ℤ → ℕ × Interval
+between node low high = (node, record { low = low; high = high })
+
+-- two casts to finer units
+abbrev pub twice_finer : Tree
+twice_finer = to Nanoseconds (to Microseconds (Input 0))
+
+-- a cast to a finer unit and back
+abbrev pub there_and_back : Tree
+there_and_back = to Milliseconds (to Nanoseconds (Input 0))
+
+-- steps of casts that go on: two rows of each node that is left
+pub record KnownChains : Type 0 where
+  pub whole : step_count (in_milliseconds (pos 5 ∷ pos 6 ∷ [])) twice_finer ≡ 4
+  pub joined : folded_steps (in_milliseconds (pos 5 ∷ pos 6 ∷ [])) [] twice_finer ≡ 2
+  pub strict : folded_steps (in_milliseconds (pos 5 ∷ pos 6 ∷ [])) []
+      (Cast (to Microseconds (Input 0)) (Datetime Nanoseconds None) Strict) ≡ 4
+  pub shifted : folded_steps (in_milliseconds (pos 5 ∷ pos 6 ∷ [])) []
+      (to Nanoseconds (Shift (to Microseconds (Input 0)) (pos 1))) ≡ 6
+  pub level : folded_steps (in_milliseconds (pos 5 ∷ pos 6 ∷ [])) []
+      (to Nanoseconds (to Microseconds (to Microseconds (Input 0)))) ≡ 6
+  pub coarser : folded_steps (in_milliseconds (pos 5 ∷ pos 6 ∷ [])) []
+      (to Milliseconds (to Microseconds twice_finer)) ≡ 4
+
+-- steps of a cast to a finer unit and back: none where a valid plan covers it
+pub record KnownReturns : Type 0 where
+  pub covered : folded_steps (in_milliseconds (pos 5 ∷ []))
+      (between 0 (pos 5) (pos 5) ∷ between 1 (pos 0) (pos 5000000) ∷ []) there_and_back ≡ 0
+  pub uncovered : folded_steps (in_milliseconds (pos 5 ∷ []))
+      (between 0 (pos 5) (pos 5) ∷ []) there_and_back ≡ 2
+  pub false_plan : folded_steps (in_milliseconds (pos (2 ^ 63 - 1) ∷ []))
+      (between 1 (pos 0) (pos 9) ∷ []) there_and_back ≡ 2
+  pub no_such_node : folded_steps (in_milliseconds (pos 5 ∷ []))
+      (between 0 (pos 5) (pos 5) ∷ between 1 (pos 0) (pos 5000000)
+      ∷ between 3 (pos 0) (pos 9) ∷ []) there_and_back ≡ 2
+  pub two_there_two_back : folded_steps (in_milliseconds (pos 5 ∷ []))
+      (between 0 (pos 5) (pos 5) ∷ between 1 (pos 0) (pos 5000)
+      ∷ between 2 (pos 0) (pos 5000000) ∷ between 3 (pos 0) (pos 5000) ∷ [])
+      (to Milliseconds (to Microseconds twice_finer)) ≡ 0

@@ -81,18 +81,28 @@ is_type (Some from) dtype = same_type from dtype
 abbrev pub is_covered : Plan → ℕ → Bool
 is_covered plan node = is_some (interval_in plan node)
 
--- a cast of this number over an operand that is folded: two steps that go on are one cast from what
--- stands under the first; a step that turns back a covered one leaves that operand
+-- what a cast stands over: where both it and its operand are steps and go on, what the operand stands
+-- over
+abbrev pub joined_operand : List Column → Numbered → DataType → CastOptions → Numbered
+joined_operand inputs operand target options =
+    if goes_on (step_of inputs operand.tree) (step_of inputs (Cast operand.tree target options))
+    then under_cast operand
+    else operand
+
+-- a cast of this number over an operand; where it turns back a covered one to the type from which that
+-- one led, what both stand over
+abbrev pub turned_cast : List Column → Plan → ℕ → Numbered → DataType → CastOptions → Numbered
+turned_cast inputs plan node operand target options =
+    if turns_back (step_of inputs operand.tree) (step_of inputs (Cast operand.tree target options))
+        && is_type (dtype_of inputs (cast_operand operand.tree)) target
+        && is_covered plan (number_at operand.numbers)
+    then under_cast operand
+    else cast_over node operand target options
+
+-- a cast over an operand that is folded: first joined, then turned
 abbrev pub fold_cast : List Column → Plan → ℕ → Numbered → DataType → CastOptions → Numbered
 fold_cast inputs plan node operand target options =
-    let first = step_of inputs operand.tree in
-    let second = step_of inputs (Cast operand.tree target options) in
-    let inner = under_cast operand in
-    if goes_on first second then cast_over node inner target options
-    else if turns_back first second && is_type (dtype_of inputs inner.tree) target
-        && is_covered plan (number_at operand.numbers)
-    then inner
-    else cast_over node operand target options
+    turned_cast inputs plan node (joined_operand inputs operand target options) target options
 
 -- a tree with these numbers, folded from the operands upwards by a plan that holds
 abbrev pub folded_by : List Column → Plan → Numbers → Tree → Numbered

@@ -25,7 +25,7 @@ use crate::node::{Node, UnaryOp};
 use crate::operations::{binary_column, unary_column};
 use crate::plan::RangePlan;
 use crate::steps::Steps;
-use crate::waiting::{UnitCast, Waiting};
+use crate::waiting::{UnitCast, UnitStep, Waiting};
 use col_model::{UnitChange, unit_change};
 use col_series::{CastOptions, DataType, Series};
 use std::alloc::Global;
@@ -291,5 +291,5 @@ fn is_back(column: &Series, coarser: &Option<UnitCast>, cast: &UnitCast) -> bool
 fn is_covered(plan: &RangePlan, valid: bool, node: u32) -> bool
     ensures covered { result ≡ is_covered (plan_if valid plan.now) node }
 {
-    valid && plan.interval(node).is_some()
+    valid && plan.bounds(node).is_some()
 }

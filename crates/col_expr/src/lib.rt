@@ -24,7 +24,7 @@ pub use check::check_plan;
 pub use error::{EvalError, ExprCause, ExprRefused};
 pub use evaluation::evaluate;
 pub use expr::Expr;
-pub use fold_laws::folding_changes_no_answer;
+pub use fold_laws::{folding_changes_no_answer, known_folds};
 pub use folded::evaluate_folded;
 pub use inputs::Inputs;
 pub use interval::Interval;
