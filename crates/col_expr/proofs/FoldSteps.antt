@@ -65,13 +65,12 @@ no_finer : (u v : TimeUnit) → nanos_per_tick u < nanos_per_tick v → is_no_fi
 no_finer u v h = grind (arith, nat_tests)
 
 -- what two steps that go on are
-pub OneWay : UnitChange → UnitChange → Type 0
+abbrev pub OneWay : UnitChange → UnitChange → Type 0
 OneWay s t =
     ((m : ℕ) × (n : ℕ) × (s ≡ Finer m) × (t ≡ Finer n))
     ⊎ ((m : ℕ) × (n : ℕ) × (s ≡ Coarser m) × (t ≡ Coarser n))
 
 pub goes_on-parts : (s t : UnitChange) → goes_on (Some s) (Some t) ≡ true → OneWay s t
-unfolding OneWay
 goes_on-parts (Finer m) (Finer n) h = inl (m, n, refl, refl)
 goes_on-parts (Coarser m) (Coarser n) h = inr (m, n, refl, refl)
 goes_on-parts s t h = cc
@@ -270,7 +269,6 @@ step_told f options target s step = rw (step.typed, step.free, step.good) step.p
 two_steps : (a b c : DataType) (s t : UnitChange) (slot : Option Value) →
     unit_step a b ≡ Some s → unit_step b c ≡ Some t → OneWay s t →
     slot_cast b c (slot_cast a b slot) ≡ slot_cast a c slot
-unfolding OneWay
 two_steps (Datetime u x) (Datetime v y) (Datetime w z) s t slot h k (inl way) =
     let p = no_coarser u v (finer_way u v way.0 (some_is _ _ h ∙ way.2)) in
     let q = no_coarser v w (finer_way v w way.1 (some_is _ _ k ∙ way.3)) in
@@ -315,7 +313,6 @@ coarser_is u v h =
 
 units_together : (u v w : TimeUnit) → OneWay (unit_change u v) (unit_change v w) →
     OneWay (unit_change u v) (unit_change u w)
-unfolding OneWay
 units_together u v w (inl way) =
     let p = finer_way u v way.0 way.2 in
     let q = finer_way v w way.1 way.3 in
@@ -348,19 +345,16 @@ one_step a b c s t h k way = cc
 -- where one step leads to a finer unit, so does another that goes its way
 pub both_finer : (s t : UnitChange) (m : ℕ) → OneWay s t → s ≡ Finer m →
     (n : ℕ) × (t ≡ Finer n)
-unfolding OneWay
 both_finer s t m (inl way) h = (way.1, way.3)
 both_finer s t m (inr way) h = cc (sym h ∙ way.2)
 
 pub finer_first : (s t : UnitChange) (m : ℕ) → OneWay s t → t ≡ Finer m →
     (n : ℕ) × (s ≡ Finer n)
-unfolding OneWay
 finer_first s t m (inl way) h = (way.0, way.2)
 finer_first s t m (inr way) h = cc (sym h ∙ way.3)
 
 pub both_coarser : (s t : UnitChange) (m : ℕ) → OneWay s t → s ≡ Coarser m →
     (n : ℕ) × (t ≡ Coarser n)
-unfolding OneWay
 both_coarser s t m (inl way) h = cc (sym h ∙ way.2)
 both_coarser s t m (inr way) h = (way.1, way.3)
 

@@ -1,5 +1,5 @@
 -- Columns over which casts wait: done, joined and taken away.
-use Rattle.std.proofs.Common.{◌≡◌, ℕ, ◌+◌, Bool, true, false, ◌&&◌, List, [], length, Option, Some, None, Result, Ok, Err, OnOk, IfOk, IfSome, refl, sym, ap, ◌∙◌, subst}
+use Rattle.std.proofs.Common.{◌≡◌, ℕ, ◌+◌, Bool, true, false, ◌&&◌, List, [], length, Option, Some, None, Result, Ok, Err, OnOk, IfOk, ◌⊎◌, inl, inr, refl, sym, ap, ◌∙◌, subst}
 use Rattle.std.specs.Prelude.{if◌then◌else◌, unwrap_or}
 use Rattle.std.specs.List.{All}
 use Rattle.col_types.specs.DataType.{same_type}
@@ -14,22 +14,24 @@ use Rattle.col_model.specs.ColumnCalls.{unless_refused}
 use Rattle.col_expr.specs.declared.error.EvalError.{EvalError}
 use Rattle.col_expr.specs.declared.node.UnaryOp.{UnaryOp}
 use Rattle.col_expr.specs.declared.node.UnaryOp.TheVariants as operations
+use Rattle.col_expr.specs.declared.waiting.Way.{Way}
 use Rattle.col_expr.specs.declared.waiting.UnitCast.{UnitCast}
 use Rattle.col_expr.specs.declared.waiting.Waiting.{Waiting}
+use Rattle.col_expr.specs.declared.waiting.Waiting.TheVariants as waitings
 use Rattle.col_expr.specs.Tree.{Tree, Cast}
 use Rattle.col_expr.specs.Node.{over}
 use Rattle.col_expr.specs.Numbers.{Numbers, Over, number_at, below}
 use Rattle.col_expr.specs.Meaning.{dtype_of, step_count, result_column}
-use Rattle.col_expr.specs.Refusal.{Unless, GivesBy, first_refusal, outcome_by, outcome}
+use Rattle.col_expr.specs.Refusal.{GivesBy, outcome_by, outcome}
 use Rattle.col_expr.specs.Found.{IsColumnOf, IsFine, IsFound, unary_at}
 use Rattle.col_expr.specs.Plan.{Plan}
 use Rattle.col_expr.specs.PlanLaws.{ValidPlansAreKept}
-use Rattle.col_expr.specs.Folded.{Numbered, unit_step_for, step_of, goes_on, turns_back, is_type, is_covered, under_cast, cast_over, fold_cast, folded_by, folded}
-use Rattle.col_expr.specs.Waiting.{with_cast, dtype_over, waiting_dtype, IsLevel, LeadsCoarser, LeadsFiner, operation_step, IsCastOf, IsWaiting, IsFolding, IsReady, fold_over}
+use Rattle.col_expr.specs.Folded.{Numbered, step_of, goes_on, turns_back, is_type, is_covered, cast_operand, under_cast, cast_over, joined_operand, turned_cast, fold_cast, folded_by, folded}
+use Rattle.col_expr.specs.Waiting.{way_of, same_way, there_and_back, waiting_dtype, under_last, last_turns_back, joined_waiting, IsLevel, Leads, operation_step, fold_over, IsWaiting, IsReady}
 use Rattle.col_expr.proofs.NodeLemmas.{Unless-map, slots_of-is}
 use Rattle.col_expr.proofs.UnaryLemmas.{found_unary, refused_below, steps_unary}
-use Rattle.col_expr.proofs.FoldFacts.{Facts, facts, cast_facts}
-use Rattle.col_expr.proofs.FoldSteps.{OneWay, goes_on-parts, both_finer, both_coarser, IsStep, step_is, step_told, joined_step}
+use Rattle.col_expr.proofs.FoldFacts.{Facts, facts}
+use Rattle.col_expr.proofs.FoldSteps.{OneWay, goes_on-parts, some_is, step_is, step_told, joined_step}
 use Rattle.col_expr.proofs.FoldLemmas.{folding_good}
 
 -- ---- what is done
@@ -62,14 +64,6 @@ pub operation_refused : (inputs : List Column) (folded : Numbered) (node : ℕ) 
 operation_refused inputs folded node op error found =
     refused_below inputs (Over node folded.numbers) op folded.tree error found
 
--- the same of a cast that waits, or of none
-pub waits_refused : (inputs : List Column) (folded : Numbered) (cast : Option UnitCast)
-    (error : EvalError) → IsFound inputs folded.numbers folded.tree (Err error) →
-    IsFound inputs (with_cast cast folded).numbers (with_cast cast folded).tree (Err error)
-waits_refused inputs folded None error found = found
-waits_refused inputs folded (Some cast) error found =
-    operation_refused inputs folded cast.node (operations.Cast cast.target NonStrict) error found
-
 -- ---- the answer for the folded tree is that for the whole one
 
 column_is_result : (inputs : List Column) (t : Tree) (c : Column) → IsColumnOf inputs t c →
@@ -98,88 +92,69 @@ folded_outcome law inputs plan tree answer columns found =
     (found_outcome inputs (folded inputs plan tree).numbers (folded inputs plan tree).tree answer
     found)
 
--- ---- the type above what waits
+-- ---- casts that wait
 
-leads_dtype : (inputs : List Column) (tree : Tree) (target : DataType) (s : UnitChange) →
-    unit_step_for NonStrict (dtype_of inputs tree) target ≡ Some s →
-    dtype_of inputs (Cast tree target NonStrict) ≡ Some target
-leads_dtype inputs tree target s h =
-    ap (λ (f : Facts). f.dtype) (step_is (facts inputs tree) NonStrict target s h).column
-
-coarser_dtype : (inputs : List Column) (g : Numbered) (cast : Option UnitCast)
-    (dtype : DataType) → dtype_of inputs g.tree ≡ Some dtype →
-    IfSome cast (LeadsCoarser (dtype_of inputs g.tree)) →
-    dtype_of inputs (with_cast cast g).tree ≡ Some (dtype_over cast dtype)
-coarser_dtype inputs g None dtype typed leads = typed
-coarser_dtype inputs g (Some cast) dtype typed leads =
-    leads_dtype inputs g.tree cast.target (Coarser leads.0) leads.1
-
-finer_dtype : (inputs : List Column) (g : Numbered) (cast : Option UnitCast)
-    (dtype : DataType) → dtype_of inputs g.tree ≡ Some dtype →
-    IfSome cast (LeadsFiner (dtype_of inputs g.tree)) →
-    dtype_of inputs (with_cast cast g).tree ≡ Some (dtype_over cast dtype)
-finer_dtype inputs g None dtype typed leads = typed
-finer_dtype inputs g (Some cast) dtype typed leads =
-    leads_dtype inputs g.tree cast.target (Finer leads.0) leads.1
-
--- the type under the cast to a finer unit
-pub under_dtype : (inputs : List Column) (f : Numbered) (before after : ℕ) (w : Waiting)
-    (is : IsWaiting inputs f before after w) →
-    dtype_of inputs (with_cast w.coarser is.base).tree
-    ≡ Some (dtype_over w.coarser (column_of w.column).dtype)
-under_dtype inputs f before after w is =
-    coarser_dtype inputs is.base w.coarser (column_of w.column).dtype is.fine.column_is.typed
-    is.coarser
+-- the type of a cast that leads its way is its target
+leads_dtype : (inputs : List Column) (tree : Tree) (cast : UnitCast) →
+    Leads (dtype_of inputs tree) cast →
+    dtype_of inputs (Cast tree cast.target NonStrict) ≡ Some cast.target
+leads_dtype inputs tree cast leads =
+    ap (λ (f : Facts). f.dtype)
+    (step_is (facts inputs tree) NonStrict cast.target leads.0 leads.1).column
 
 pub whole_dtype : (inputs : List Column) (f : Numbered) (before after : ℕ) (w : Waiting) →
     IsWaiting inputs f before after w → dtype_of inputs f.tree ≡ Some (waiting_dtype w)
-whole_dtype inputs f before after w is =
-    ap (λ (g : Numbered). dtype_of inputs g.tree) is.whole
-    ∙ finer_dtype inputs (with_cast w.coarser is.base) w.finer
-    (dtype_over w.coarser (column_of w.column).dtype) (under_dtype inputs f before after w is)
-    is.finer
+whole_dtype inputs f before after (waitings.Column column) is = is.fine.column_is.typed
+whole_dtype inputs f before after (waitings.Cast' place below cast) is =
+    ap (λ (g : Numbered). dtype_of inputs g.tree) is.1 ∙ leads_dtype inputs is.0.tree cast is.2
 
--- ---- a cast over what waits
+-- ---- the ways of two casts
 
-fold_on : (inputs : List Column) (plan : Plan) (node : ℕ) (f : Numbered) (target : DataType)
-    (options : CastOptions) →
-    goes_on (step_of inputs f.tree) (step_of inputs (Cast f.tree target options)) ≡ true →
-    fold_cast inputs plan node f target options ≡ cast_over node (under_cast f) target options
-fold_on inputs plan node f target options h =
-    ap (λ b. if b then cast_over node (under_cast f) target options
-    else if turns_back (step_of inputs f.tree) (step_of inputs (Cast f.tree target options))
-    && is_type (dtype_of inputs (under_cast f).tree) target
-    && is_covered plan (number_at f.numbers) then under_cast f
-    else cast_over node f target options) h
+ways_on : (s t : UnitChange) (v w : Way) → way_of s ≡ Some v → way_of t ≡ Some w →
+    goes_on (Some s) (Some t) ≡ same_way v w
+ways_on (Finer m) (Finer n) v w h k = rw (sym (some_is _ _ h), sym (some_is _ _ k)) refl
+ways_on (Finer m) (Coarser n) v w h k = rw (sym (some_is _ _ h), sym (some_is _ _ k)) refl
+ways_on (Coarser m) (Finer n) v w h k = rw (sym (some_is _ _ h), sym (some_is _ _ k)) refl
+ways_on (Coarser m) (Coarser n) v w h k = rw (sym (some_is _ _ h), sym (some_is _ _ k)) refl
+ways_on Same t v w h k = cc
+ways_on (Finer m) Same v w h k = cc
+ways_on (Coarser m) Same v w h k = cc
 
-fold_by : (inputs : List Column) (plan : Plan) (node : ℕ) (f : Numbered) (target : DataType)
-    (options : CastOptions) (back : Bool) →
-    goes_on (step_of inputs f.tree) (step_of inputs (Cast f.tree target options)) ≡ false →
-    (turns_back (step_of inputs f.tree) (step_of inputs (Cast f.tree target options))
-    && is_type (dtype_of inputs (under_cast f).tree) target
-    && is_covered plan (number_at f.numbers)) ≡ back →
-    fold_cast inputs plan node f target options
-    ≡ (if back then under_cast f else cast_over node f target options)
-fold_by inputs plan node f target options back h k =
-    ap (λ b. if b then cast_over node (under_cast f) target options
-    else if turns_back (step_of inputs f.tree) (step_of inputs (Cast f.tree target options))
-    && is_type (dtype_of inputs (under_cast f).tree) target
-    && is_covered plan (number_at f.numbers) then under_cast f
-    else cast_over node f target options) h
-    ∙ ap (λ b. if b then under_cast f else cast_over node f target options) k
+ways_back : (s t : UnitChange) (v w : Way) → way_of s ≡ Some v → way_of t ≡ Some w →
+    turns_back (Some s) (Some t) ≡ there_and_back v w
+ways_back (Finer m) (Finer n) v w h k = rw (sym (some_is _ _ h), sym (some_is _ _ k)) refl
+ways_back (Finer m) (Coarser n) v w h k = rw (sym (some_is _ _ h), sym (some_is _ _ k)) refl
+ways_back (Coarser m) (Finer n) v w h k = rw (sym (some_is _ _ h), sym (some_is _ _ k)) refl
+ways_back (Coarser m) (Coarser n) v w h k = rw (sym (some_is _ _ h), sym (some_is _ _ k)) refl
+ways_back Same t v w h k = cc
+ways_back (Finer m) Same v w h k = cc
+ways_back (Coarser m) Same v w h k = cc
 
--- steps that neither go on nor turn back
+one_way : (s t : UnitChange) → OneWay s t → way_of s ≡ way_of t
+one_way s t (inl way) = ap way_of way.2 ∙ sym (ap way_of way.3)
+one_way s t (inr way) = ap way_of way.2 ∙ sym (ap way_of way.3)
+
+-- a cast over one that goes its way leads its way from what that one stands over
+leads_on : (inputs : List Column) (g : Numbered) (last cast : UnitCast) →
+    Leads (dtype_of inputs g.tree) last →
+    Leads (dtype_of inputs (Cast g.tree last.target NonStrict)) cast →
+    same_way last.way cast.way ≡ true → Leads (dtype_of inputs g.tree) cast
+leads_on inputs g last cast one two same =
+    let f = facts inputs g.tree in
+    let way = goes_on-parts one.0 two.0
+        (ways_on one.0 two.0 last.way cast.way one.2 two.2 ∙ same) in
+    let j = joined_step f NonStrict NonStrict last.target cast.target one.0 two.0
+        (step_is f NonStrict last.target one.0 one.1)
+        (step_is (facts inputs (Cast g.tree last.target NonStrict)) NonStrict cast.target two.0
+        two.1)
+        way in
+    (j.step, step_told f NonStrict cast.target j.step j.is_step,
+    sym (one_way one.0 j.step j.way) ∙ one_way one.0 two.0 way ∙ two.2)
+
+-- ---- steps that neither go on nor turn back
+
 abbrev Apart : Option UnitChange → Option UnitChange → Type 0
 Apart p q = (goes_on p q ≡ false) × (turns_back p q ≡ false)
-
-fold_apart : (inputs : List Column) (plan : Plan) (node : ℕ) (f : Numbered) (target : DataType)
-    (options : CastOptions) →
-    Apart (step_of inputs f.tree) (step_of inputs (Cast f.tree target options)) →
-    fold_cast inputs plan node f target options ≡ cast_over node f target options
-fold_apart inputs plan node f target options apart =
-    fold_by inputs plan node f target options false apart.0
-    (ap (λ b. b && is_type (dtype_of inputs (under_cast f).tree) target
-    && is_covered plan (number_at f.numbers)) apart.1)
 
 level_first : (p q : Option UnitChange) → IsLevel p → Apart p q
 level_first None q level = (refl, refl)
@@ -196,232 +171,162 @@ level_second (Some (Finer m)) (Some (Finer n)) level = cc (level (Finer n) refl)
 level_second (Some (Finer m)) (Some (Coarser n)) level = cc (level (Coarser n) refl)
 level_second (Some (Coarser m)) None level = (refl, refl)
 level_second (Some (Coarser m)) (Some Same) level = (refl, refl)
-level_second (Some (Coarser m)) (Some (Finer n)) level = (refl, refl)
+level_second (Some (Coarser m)) (Some (Finer n)) level = cc (level (Finer n) refl)
 level_second (Some (Coarser m)) (Some (Coarser n)) level = cc (level (Coarser n) refl)
 
--- two steps of one way are one step of that way
-joined_way : (inputs : List Column) (tree : Tree) (between target : DataType)
-    (s t : UnitChange) → goes_on (Some s) (Some t) ≡ true →
-    unit_step_for NonStrict (dtype_of inputs tree) between ≡ Some s →
-    unit_step_for NonStrict (dtype_of inputs (Cast tree between NonStrict)) target ≡ Some t →
-    (step : UnitChange) × OneWay s step
-    × (unit_step_for NonStrict (dtype_of inputs tree) target ≡ Some step)
-joined_way inputs tree between target s t on one two =
-    let f = facts inputs tree in
-    let j = joined_step f NonStrict NonStrict between target s t
-        (step_is f NonStrict between s one)
-        (step_is (facts inputs (Cast tree between NonStrict)) NonStrict target t two)
-        (goes_on-parts s t on) in
-    (j.step, j.way, step_told f NonStrict target j.step j.is_step)
+-- ---- a cast over what waits
 
-record IsOver (inputs : List Column) (whole g : Numbered) (cast : UnitCast)
-    (leads : Option DataType → UnitCast → Type 0) : Type 0 where
-  is : whole ≡ with_cast (Some cast) g
-  leads : leads (dtype_of inputs g.tree) cast
+-- what is joined, with the casts that wait there
+record IsJoined (inputs : List Column) (f : Numbered) (before after : ℕ) (w : Waiting)
+    (cast : UnitCast) : Type 0 where
+  waits : IsWaiting inputs (joined_operand inputs f cast.target NonStrict) before after
+      (joined_waiting w cast)
+  leads : Leads (dtype_of inputs (joined_operand inputs f cast.target NonStrict).tree) cast
 
--- a cast to a finer unit waits, alone or joined with the one that waited
-finer_by : (inputs : List Column) (plan : Plan) (base : Numbered)
-    (coarser finer : Option UnitCast) (cast : UnitCast) (m : ℕ) →
-    (coarser ≡ None → IsLevel (step_of inputs base.tree)) →
-    IfSome coarser (LeadsCoarser (dtype_of inputs base.tree)) →
-    IfSome finer (LeadsFiner (dtype_of inputs (with_cast coarser base).tree)) →
-    unit_step_for NonStrict (dtype_of inputs (with_cast finer (with_cast coarser base)).tree)
-    cast.target ≡ Some (Finer m) →
-    IsOver inputs (fold_cast inputs plan cast.node (with_cast finer (with_cast coarser base))
-    cast.target NonStrict) (with_cast coarser base) cast LeadsFiner
-finer_by inputs plan base coarser (Some d) cast m level c f h =
-    let g = with_cast coarser base in
-    let way = joined_way inputs g.tree d.target cast.target (Finer f.0) (Finer m) refl f.1 h in
-    let fine = both_finer (Finer f.0) way.0 f.0 way.1 refl in
-    record {
-      is = fold_on inputs plan cast.node (with_cast (Some d) g) cast.target NonStrict
-          (λ i. goes_on (f.1 i) (h i));
-      leads = (fine.0, way.2 ∙ ap Some fine.1);
-    }
-finer_by inputs plan base (Some d) None cast m level c f h = record {
-  is = fold_apart inputs plan cast.node (with_cast (Some d) base) cast.target NonStrict
-      ((λ i. goes_on (c.1 i) (h i)), (λ i. turns_back (c.1 i) (h i)));
-  leads = (m, h);
-}
-finer_by inputs plan base None None cast m level c f h = record {
-  is = fold_apart inputs plan cast.node base cast.target NonStrict
-      (level_first (step_of inputs base.tree)
-      (step_of inputs (Cast base.tree cast.target NonStrict)) (level refl));
-  leads = (m, h);
-}
+joined_by : (inputs : List Column) (f g : Numbered) (before after : ℕ) (w v : Waiting)
+    (cast : UnitCast) → joined_operand inputs f cast.target NonStrict ≡ g →
+    joined_waiting w cast ≡ v → IsWaiting inputs g before after v →
+    Leads (dtype_of inputs g.tree) cast → IsJoined inputs f before after w cast
+joined_by inputs f g before after w v cast is joined waits leads =
+    let P : Waiting → Type 0 = λ v. IsWaiting inputs g before after v in
+    let Q : Numbered → Type 0 = λ g. IsWaiting inputs g before after (joined_waiting w cast) in
+    let R : Numbered → Type 0 = λ g. Leads (dtype_of inputs g.tree) cast in
+    record { waits = subst Q (sym is) (subst P (sym joined) waits); leads = subst R (sym is) leads }
 
--- a cast to a coarser unit where none to a finer unit waits
-coarser_by : (inputs : List Column) (plan : Plan) (base : Numbered) (coarser : Option UnitCast)
-    (cast : UnitCast) (n : ℕ) → (coarser ≡ None → IsLevel (step_of inputs base.tree)) →
-    IfSome coarser (LeadsCoarser (dtype_of inputs base.tree)) →
-    unit_step_for NonStrict (dtype_of inputs (with_cast coarser base).tree) cast.target
-    ≡ Some (Coarser n) →
-    IsOver inputs (fold_cast inputs plan cast.node (with_cast coarser base) cast.target NonStrict)
-    base cast LeadsCoarser
-coarser_by inputs plan base (Some d) cast n level c h =
-    let way = joined_way inputs base.tree d.target cast.target (Coarser c.0) (Coarser n) refl c.1 h in
-    let coarse = both_coarser (Coarser c.0) way.0 c.0 way.1 refl in
-    record {
-      is = fold_on inputs plan cast.node (with_cast (Some d) base) cast.target NonStrict
-          (λ i. goes_on (c.1 i) (h i));
-      leads = (coarse.0, way.2 ∙ ap Some coarse.1);
-    }
-coarser_by inputs plan base None cast n level c h = record {
-  is = fold_apart inputs plan cast.node base cast.target NonStrict
-      (level_first (step_of inputs base.tree)
-      (step_of inputs (Cast base.tree cast.target NonStrict)) (level refl));
-  leads = (n, h);
-}
+-- what is joined, by whether both casts go on
+joined_is : (inputs : List Column) (f : Numbered) (target : DataType) (on : Bool) →
+    goes_on (step_of inputs f.tree) (step_of inputs (Cast f.tree target NonStrict)) ≡ on →
+    joined_operand inputs f target NonStrict ≡ (if on then under_cast f else f)
+joined_is inputs f target on h = ap (λ b. if b then under_cast f else f) h
 
--- a cast to a coarser unit over one to a finer unit that waits
-back_by : (inputs : List Column) (plan : Plan) (g : Numbered) (d cast : UnitCast) (n : ℕ)
-    (back : Bool) → LeadsFiner (dtype_of inputs g.tree) d →
-    unit_step_for NonStrict (dtype_of inputs (with_cast (Some d) g).tree) cast.target
-    ≡ Some (Coarser n) →
-    (is_type (dtype_of inputs g.tree) cast.target && is_covered plan d.node) ≡ back →
-    fold_cast inputs plan cast.node (with_cast (Some d) g) cast.target NonStrict
-    ≡ (if back then g else with_cast (Some cast) (with_cast (Some d) g))
-back_by inputs plan g d cast n back f h k =
-    fold_by inputs plan cast.node (with_cast (Some d) g) cast.target NonStrict back
-    (λ i. goes_on (f.1 i) (h i))
-    ((λ i. turns_back (f.1 i) (h i) && is_type (dtype_of inputs g.tree) cast.target
-    && is_covered plan d.node) ∙ k)
+-- a cast over one that waits
+join_over : (inputs : List Column) (g : Numbered) (before after : ℕ) (w below : Waiting)
+    (last cast : UnitCast) (on : Bool) → Leads (dtype_of inputs g.tree) last →
+    IsWaiting inputs g before after below →
+    IsWaiting inputs (cast_over last.node g last.target NonStrict) before after w →
+    Leads (dtype_of inputs (Cast g.tree last.target NonStrict)) cast →
+    same_way last.way cast.way ≡ on →
+    joined_waiting w cast ≡ (if same_way last.way cast.way then below else w) →
+    IsJoined inputs (cast_over last.node g last.target NonStrict) before after w cast
+join_over inputs g before after w below last cast true one is whole two same joined =
+    joined_by inputs (cast_over last.node g last.target NonStrict) g before after w below cast
+    (joined_is inputs (cast_over last.node g last.target NonStrict) cast.target true
+    ((λ i. goes_on (one.1 i) (two.1 i)) ∙ ways_on one.0 two.0 last.way cast.way one.2 two.2 ∙ same))
+    (joined ∙ ap (λ b. if b then below else w) same) is
+    (leads_on inputs g last cast one two same)
+join_over inputs g before after w below last cast false one is whole two same joined =
+    joined_by inputs (cast_over last.node g last.target NonStrict)
+    (cast_over last.node g last.target NonStrict) before after w w cast
+    (joined_is inputs (cast_over last.node g last.target NonStrict) cast.target false
+    ((λ i. goes_on (one.1 i) (two.1 i)) ∙ ways_on one.0 two.0 last.way cast.way one.2 two.2 ∙ same))
+    (joined ∙ ap (λ b. if b then below else w) same) whole two
 
--- ---- the same, of what waits
+join_waiting : (inputs : List Column) (f : Numbered) (before after : ℕ) (w : Waiting)
+    (cast : UnitCast) → IsWaiting inputs f before after w →
+    Leads (dtype_of inputs f.tree) cast → IsJoined inputs f before after w cast
+join_waiting inputs f before after (waitings.Column column) cast is leads =
+    joined_by inputs f f before after (waitings.Column column) (waitings.Column column) cast
+    (joined_is inputs f cast.target false
+    (level_first (step_of inputs f.tree) (step_of inputs (Cast f.tree cast.target NonStrict))
+    is.level).0) refl is leads
+join_waiting inputs f before after (waitings.Cast' place below last) cast is leads =
+    let w = waitings.Cast' place below last in
+    let P : Numbered → Type 0 = λ f. IsJoined inputs f before after w cast in
+    let Q : Numbered → Type 0 = λ f. Leads (dtype_of inputs f.tree) cast in
+    subst P (sym is.1)
+    (join_over inputs is.0 before after w below last cast (same_way last.way cast.way) is.2 is.3
+    (is.0, refl, is.2, is.3) (subst Q is.1 leads) refl refl)
 
-pub fold_finer : (inputs : List Column) (plan : Plan) (f : Numbered) (before after : ℕ)
-    (w : Waiting) (node : ℕ) (op : UnaryOp) (cast : UnitCast) →
-    IsWaiting inputs f before after w → IsCastOf node op cast →
-    LeadsFiner (Some (waiting_dtype w)) cast →
-    IsWaiting inputs (fold_over inputs plan node op f) before after
-    (record { column = w.column; coarser = w.coarser; finer = Some cast })
-fold_finer inputs plan f before after w node op cast is of leads =
-    let typed = sym (ap (λ (g : Numbered). dtype_of inputs g.tree) is.whole)
-        ∙ whole_dtype inputs f before after w is in
-    let over_it = finer_by inputs plan is.base w.coarser w.finer cast leads.0 is.level is.coarser
-        is.finer
-        (ap (λ d. unit_step_for NonStrict d cast.target) typed ∙ leads.1) in
-    record {
-      base = is.base;
-      whole = (λ i. fold_over inputs plan (of.1 i) (of.0 i) (is.whole i)) ∙ over_it.is;
-      fine = is.fine;
-      counted = is.counted;
-      coarser = is.coarser;
-      finer = over_it.leads;
-      level = is.level;
-    }
+-- a cast that is turned, by the test of the code
+turned_is : (inputs : List Column) (plan : Plan) (f : Numbered) (cast : UnitCast) (back : Bool) →
+    (turns_back (step_of inputs f.tree) (step_of inputs (Cast f.tree cast.target NonStrict))
+    && is_type (dtype_of inputs (cast_operand f.tree)) cast.target
+    && is_covered plan (number_at f.numbers)) ≡ back →
+    turned_cast inputs plan cast.node f cast.target NonStrict
+    ≡ (if back then under_cast f else cast_over cast.node f cast.target NonStrict)
+turned_is inputs plan f cast back h =
+    ap (λ b. if b then under_cast f else cast_over cast.node f cast.target NonStrict) h
 
-pub fold_coarser_alone : (inputs : List Column) (plan : Plan) (f : Numbered) (before after : ℕ)
-    (w : Waiting) (cast : UnitCast) → IsWaiting inputs f before after w → w.finer ≡ None →
-    LeadsCoarser (dtype_of inputs f.tree) cast →
-    IsWaiting inputs (fold_cast inputs plan cast.node f cast.target NonStrict) before after
-    (record { column = w.column; coarser = Some cast; finer = None })
-fold_coarser_alone inputs plan f before after w cast is none leads =
-    let whole : f ≡ with_cast w.coarser is.base =
-    is.whole ∙ ap (λ cast. with_cast cast (with_cast w.coarser is.base)) none in
-    let over_it = coarser_by inputs plan is.base w.coarser cast leads.0 is.level is.coarser
-        (ap (λ (g : Numbered). unit_step_for NonStrict (dtype_of inputs g.tree) cast.target)
-        (sym whole) ∙ leads.1) in
-    record {
-      base = is.base;
-      whole = ap (λ g. fold_cast inputs plan cast.node g cast.target NonStrict) whole ∙ over_it.is;
-      fine = is.fine;
-      counted = is.counted;
-      coarser = over_it.leads;
-      finer = tt;
-      level = λ h. cc;
-    }
+turn_over : (inputs : List Column) (plan : Plan) (g : Numbered) (before after : ℕ)
+    (below : Waiting) (last cast : UnitCast) (back : Bool) →
+    Leads (dtype_of inputs g.tree) last → IsWaiting inputs g before after below →
+    Leads (dtype_of inputs (Cast g.tree last.target NonStrict)) cast →
+    (there_and_back last.way cast.way && same_type (waiting_dtype below) cast.target
+    && is_covered plan last.node) ≡ back →
+    turned_cast inputs plan cast.node (cast_over last.node g last.target NonStrict) cast.target
+    NonStrict
+    ≡ (if back then g
+    else cast_over cast.node (cast_over last.node g last.target NonStrict) cast.target NonStrict)
+turn_over inputs plan g before after below last cast back one is two h =
+    let typed = whole_dtype inputs g before after below is in
+    turned_is inputs plan (cast_over last.node g last.target NonStrict) cast back
+    ((λ i. turns_back (one.1 i) (two.1 i) && is_type (dtype_of inputs g.tree) cast.target
+    && is_covered plan last.node)
+    ∙ (λ i. ways_back one.0 two.0 last.way cast.way one.2 two.2 i && is_type (typed i) cast.target
+    && is_covered plan last.node)
+    ∙ h)
 
--- a cast to a finer unit that waits, and what its step and that of a cast over it are
-record Turn (inputs : List Column) (f g : Numbered) (d cast : UnitCast) : Type 0 where
-  whole : f ≡ with_cast (Some d) g
-  finer : LeadsFiner (dtype_of inputs g.tree) d
-  coarser : LeadsCoarser (dtype_of inputs (with_cast (Some d) g).tree) cast
-
-turn_of : (inputs : List Column) (f : Numbered) (before after : ℕ) (w : Waiting)
-    (d cast : UnitCast) (is : IsWaiting inputs f before after w) → w.finer ≡ Some d →
-    LeadsCoarser (dtype_of inputs f.tree) cast →
-    Turn inputs f (with_cast w.coarser is.base) d cast
-turn_of inputs f before after w d cast is some leads =
-    let g = with_cast w.coarser is.base in
-    let whole : f ≡ with_cast (Some d) g = is.whole ∙ ap (λ cast. with_cast cast g) some in
-    record {
-      whole = whole;
-      finer = subst (λ cast. IfSome cast (LeadsFiner (dtype_of inputs g.tree))) some is.finer;
-      coarser = subst (λ (g : Numbered). LeadsCoarser (dtype_of inputs g.tree) cast) whole leads;
-    }
-
--- what the fold is, by the test
-turned : (inputs : List Column) (plan : Plan) (f : Numbered) (before after : ℕ) (w : Waiting)
-    (d cast : UnitCast) (back : Bool) (is : IsWaiting inputs f before after w) →
-    w.finer ≡ Some d → LeadsCoarser (dtype_of inputs f.tree) cast →
-    (same_type (dtype_over w.coarser (column_of w.column).dtype) cast.target
-    && is_covered plan d.node) ≡ back →
-    fold_cast inputs plan cast.node f cast.target NonStrict
-    ≡ (if back then with_cast w.coarser is.base
-    else with_cast (Some cast) (with_cast (Some d) (with_cast w.coarser is.base)))
-turned inputs plan f before after w d cast back is some leads test =
-    let g = with_cast w.coarser is.base in
-    let t = turn_of inputs f before after w d cast is some leads in
-    ap (λ g. fold_cast inputs plan cast.node g cast.target NonStrict) t.whole
-    ∙ back_by inputs plan g d cast t.coarser.0 back t.finer t.coarser.1
-    (ap (λ dtype. is_type dtype cast.target && is_covered plan d.node)
-    (under_dtype inputs f before after w is) ∙ test)
-
-pub fold_back : (inputs : List Column) (plan : Plan) (f : Numbered) (before after : ℕ)
-    (w : Waiting) (d cast : UnitCast) → IsWaiting inputs f before after w →
-    w.finer ≡ Some d → LeadsCoarser (dtype_of inputs f.tree) cast →
-    (same_type (dtype_over w.coarser (column_of w.column).dtype) cast.target
-    && is_covered plan d.node) ≡ true →
-    IsWaiting inputs (fold_cast inputs plan cast.node f cast.target NonStrict) before after
-    (record { column = w.column; coarser = w.coarser; finer = None })
-fold_back inputs plan f before after w d cast is some leads test = record {
-  base = is.base;
-  whole = turned inputs plan f before after w d cast true is some leads test;
-  fine = is.fine;
-  counted = is.counted;
-  coarser = is.coarser;
-  finer = tt;
-  level = is.level;
-}
-
--- a cast to a coarser unit that turns nothing back: what waited is done
-pub fold_stuck : (inputs : List Column) (plan : Plan) (f : Numbered) (before after : ℕ)
-    (w : Waiting) (d cast : UnitCast) (mid : ℕ) (column : Chunked) →
-    IsWaiting inputs f before mid w → w.finer ≡ Some d →
-    LeadsCoarser (dtype_of inputs f.tree) cast →
-    (same_type (dtype_over w.coarser (column_of w.column).dtype) cast.target
-    && is_covered plan d.node) ≡ false →
-    IsReady inputs f before after (Ok column) →
-    IsWaiting inputs (fold_cast inputs plan cast.node f cast.target NonStrict) before after
-    (record { column = column; coarser = Some cast; finer = None })
-fold_stuck inputs plan f before after w d cast mid column is some leads test ready = record {
-  base = f;
-  whole = turned inputs plan f before mid w d cast false is some leads test
-      ∙ ap (with_cast (Some cast)) (sym (turn_of inputs f before mid w d cast is some leads).whole);
-  fine = ready.found;
-  counted = ready.counted;
-  coarser = leads;
-  finer = tt;
-  level = λ h. cc;
-}
-
--- and a refusal of what waited is that of the whole
-pub stuck_refused : (inputs : List Column) (plan : Plan) (f : Numbered) (before after : ℕ)
-    (w : Waiting) (d cast : UnitCast) (mid : ℕ) (error : EvalError) →
-    IsWaiting inputs f before mid w → w.finer ≡ Some d →
-    LeadsCoarser (dtype_of inputs f.tree) cast →
-    (same_type (dtype_over w.coarser (column_of w.column).dtype) cast.target
-    && is_covered plan d.node) ≡ false →
-    IsFound inputs f.numbers f.tree (Err error) →
-    IsFolding inputs (fold_cast inputs plan cast.node f cast.target NonStrict) before after
-    (Err error)
-stuck_refused inputs plan f before after w d cast mid error is some leads test found =
-    let P : Numbered → Type 0 = λ g. Unless error (first_refusal inputs g.numbers g.tree ≡ Some error) in
+-- a cast that turns back the last one leaves what stands under that one
+pub back_waiting : (inputs : List Column) (plan : Plan) (f : Numbered) (before after : ℕ)
+    (w : Waiting) (cast : UnitCast) → IsWaiting inputs f before after w →
+    Leads (dtype_of inputs f.tree) cast → last_turns_back plan w cast ≡ true →
+    IsWaiting inputs (turned_cast inputs plan cast.node f cast.target NonStrict) before after
+    (under_last w)
+back_waiting inputs plan f before after (waitings.Column column) cast is leads back = cc
+back_waiting inputs plan f before after (waitings.Cast' place below last) cast is leads back =
+    let P : Numbered → Type 0 = λ g. IsWaiting inputs g before after below in
+    let Q : Numbered → Type 0 = λ f. Leads (dtype_of inputs f.tree) cast in
     subst P
-    (ap (with_cast (Some cast)) (turn_of inputs f before mid w d cast is some leads).whole
-    ∙ sym (turned inputs plan f before mid w d cast false is some leads test))
-    (waits_refused inputs f (Some cast) error found)
+    (sym (ap (λ f. turned_cast inputs plan cast.node f cast.target NonStrict) is.1
+    ∙ turn_over inputs plan is.0 before after below last cast true is.2 is.3 (subst Q is.1 leads)
+    back))
+    is.3
+
+-- another cast waits over what waits there
+turn_not : (inputs : List Column) (plan : Plan) (f : Numbered) (before after : ℕ) (w : Waiting)
+    (cast : UnitCast) → IsWaiting inputs f before after w →
+    Leads (dtype_of inputs f.tree) cast → last_turns_back plan w cast ≡ false →
+    turned_cast inputs plan cast.node f cast.target NonStrict
+    ≡ cast_over cast.node f cast.target NonStrict
+turn_not inputs plan f before after (waitings.Column column) cast is leads back =
+    turned_is inputs plan f cast false
+    (ap (λ b. b && is_type (dtype_of inputs (cast_operand f.tree)) cast.target
+    && is_covered plan (number_at f.numbers))
+    (level_first (step_of inputs f.tree) (step_of inputs (Cast f.tree cast.target NonStrict))
+    is.level).1)
+turn_not inputs plan f before after (waitings.Cast' place below last) cast is leads back =
+    let Q : Numbered → Type 0 = λ f. Leads (dtype_of inputs f.tree) cast in
+    ap (λ f. turned_cast inputs plan cast.node f cast.target NonStrict) is.1
+    ∙ turn_over inputs plan is.0 before after below last cast false is.2 is.3 (subst Q is.1 leads)
+    back
+    ∙ ap (λ f. cast_over cast.node f cast.target NonStrict) (sym is.1)
+
+-- what a cast over those that wait is once it is joined: left out with the last one
+pub fold_back : (inputs : List Column) (plan : Plan) (f : Numbered) (before after : ℕ)
+    (w : Waiting) (cast : UnitCast) → IsWaiting inputs f before after w →
+    Leads (dtype_of inputs f.tree) cast →
+    last_turns_back plan (joined_waiting w cast) cast ≡ true →
+    IsWaiting inputs (fold_cast inputs plan cast.node f cast.target NonStrict) before after
+    (under_last (joined_waiting w cast))
+fold_back inputs plan f before after w cast is leads back =
+    let j = join_waiting inputs f before after w cast is leads in
+    back_waiting inputs plan (joined_operand inputs f cast.target NonStrict) before after
+    (joined_waiting w cast) cast j.waits j.leads back
+
+-- or waiting too
+pub fold_over_it : (inputs : List Column) (plan : Plan) (f : Numbered) (before after : ℕ)
+    (w : Waiting) (cast : UnitCast) → IsWaiting inputs f before after w →
+    Leads (dtype_of inputs f.tree) cast →
+    last_turns_back plan (joined_waiting w cast) cast ≡ false →
+    (g : Numbered)
+    × (fold_cast inputs plan cast.node f cast.target NonStrict
+    ≡ cast_over cast.node g cast.target NonStrict)
+    × Leads (dtype_of inputs g.tree) cast × IsWaiting inputs g before after (joined_waiting w cast)
+fold_over_it inputs plan f before after w cast is leads back =
+    let j = join_waiting inputs f before after w cast is leads in
+    let g = joined_operand inputs f cast.target NonStrict in
+    (g, turn_not inputs plan g before after (joined_waiting w cast) cast j.waits j.leads back,
+    j.leads, j.waits)
 
 -- ---- an operation over which nothing waits
 
@@ -434,16 +339,43 @@ step_over inputs (operations.InUnit unit) tree = refl
 step_over inputs (operations.Shift periods) tree = refl
 
 -- an operation that leads to no other unit is not folded
-pub fold_level : (inputs : List Column) (plan : Plan) (node : ℕ) (op : UnaryOp) (f : Numbered) →
+fold_level : (inputs : List Column) (plan : Plan) (node : ℕ) (op : UnaryOp) (f : Numbered) →
     IsLevel (step_of inputs (over op f.tree)) →
     fold_over inputs plan node op f ≡ with_operation node op f
 fold_level inputs plan node (operations.Cast target options) f level =
-    fold_apart inputs plan node f target options
-    (level_second (step_of inputs f.tree) (step_of inputs (Cast f.tree target options)) level)
+    let apart = level_second (step_of inputs f.tree) (step_of inputs (Cast f.tree target options))
+        level in
+    ap (λ b. turned_cast inputs plan node (if b then under_cast f else f) target options) apart.0
+    ∙ ap (λ b. if b && is_type (dtype_of inputs (cast_operand f.tree)) target
+    && is_covered plan (number_at f.numbers) then under_cast f else cast_over node f target options)
+    apart.1
 fold_level inputs plan node (operations.ScalarRight op k) f level = refl
 fold_level inputs plan node (operations.ScalarLeft k op) f level = refl
 fold_level inputs plan node (operations.InUnit unit) f level = refl
 fold_level inputs plan node (operations.Shift periods) f level = refl
+
+-- what there is of an operation that is not folded
+pub record IsUnfolded (inputs : List Column) (plan : Plan) (node : ℕ) (op : UnaryOp)
+    (f : Numbered) : Type 0 where
+  pub is : fold_over inputs plan node op f ≡ with_operation node op f
+  pub level : IsLevel (step_of inputs (over op f.tree))
+
+pub unfolded : (inputs : List Column) (plan : Plan) (f : Numbered) (before after : ℕ)
+    (w : Waiting) (node : ℕ) (op : UnaryOp) → IsWaiting inputs f before after w →
+    IsLevel (operation_step (Some (waiting_dtype w)) op) → IsUnfolded inputs plan node op f
+unfolded inputs plan f before after w node op is level =
+    let same : operation_step (Some (waiting_dtype w)) op ≡ step_of inputs (over op f.tree) =
+    sym (step_over inputs op f.tree
+    ∙ ap (λ dtype. operation_step dtype op) (whole_dtype inputs f before after w is)) in
+    let kept = subst IsLevel same level in
+    record { is = fold_level inputs plan node op f kept; level = kept }
+
+-- a cast that is folded, as the operation of its node
+pub fold_as : (inputs : List Column) (plan : Plan) (f : Numbered) (node : ℕ) (op : UnaryOp)
+    (cast : UnitCast) → op ≡ operations.Cast cast.target NonStrict → node ≡ cast.node →
+    fold_over inputs plan node op f
+    ≡ fold_cast inputs plan cast.node f cast.target NonStrict
+fold_as inputs plan f node op cast is at = λ i. fold_over inputs plan (at i) (is i) f
 
 -- a node over its folded operand
 pub folded_over : (inputs : List Column) (plan : Plan) (numbers : Numbers) (op : UnaryOp)

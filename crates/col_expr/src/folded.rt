@@ -1,6 +1,6 @@
 // Evaluating an expression with casts from unit to unit folded.
 ghost use Rattle.std.specs.Prelude.{◌≡◌, ◌+◌, ◌≤◌, false, true, ℕ, List, OnOk};
-ghost use Rattle.col_types.specs.DataType.{is_nested, same_type};
+ghost use Rattle.col_types.specs.DataType.{is_nested};
 ghost use Rattle.col_types.specs.declared.cast_options.CastOptions.TheVariants.{NonStrict};
 ghost use Rattle.col_model.specs.Column.{Column};
 ghost use Rattle.col_model.specs.Chunked.{column_of, columns_of};
@@ -11,10 +11,11 @@ ghost use Rattle.col_expr.specs.Node.{node_tree};
 ghost use Rattle.col_expr.specs.Meaning.{dtype_of, step_count};
 ghost use Rattle.col_expr.specs.Refusal.{GivesBy, outcome};
 ghost use Rattle.col_expr.specs.Found.{IsFine};
-ghost use Rattle.col_expr.specs.Folded.{Numbered, folded, folded_by, fold_cast, plan_if};
+ghost use Rattle.col_expr.specs.Folded.{Numbered, folded, folded_by, fold_cast, plan_if, cast_over};
 ghost use Rattle.col_expr.specs.Folded.{unit_step_by, step_of, is_covered};
-ghost use Rattle.col_expr.specs.Waiting.{IsWaiting, IsFolding, IsReady, with_cast, dtype_over};
-ghost use Rattle.col_expr.specs.Waiting.{waiting_dtype, IsLevel, LeadsCoarser, IsUnitStep, fold_over};
+ghost use Rattle.col_expr.specs.Waiting.{IsWaiting, IsFolding, IsReady, IsLevel, Leads, IsUnitCast};
+ghost use Rattle.col_expr.specs.Waiting.{waiting_dtype, joined_waiting, under_last, same_way};
+ghost use Rattle.col_expr.specs.Waiting.{last_turns_back, fold_over};
 
 use crate::check::check_plan;
 use crate::error::EvalError;
@@ -25,7 +26,7 @@ use crate::node::{Node, UnaryOp};
 use crate::operations::{binary_column, unary_column};
 use crate::plan::RangePlan;
 use crate::steps::Steps;
-use crate::waiting::{UnitCast, UnitStep, Waiting};
+use crate::waiting::{UnitCast, Waiting, Way};
 use col_model::{UnitChange, unit_change};
 use col_series::{CastOptions, DataType, Series};
 use std::alloc::Global;
@@ -94,8 +95,7 @@ fn fold_node<L: Ledger>(
     }
 }
 
-// An operation over a column and the casts that wait over it: one to another unit waits too, joins one
-// that goes its way or takes away one that it turns back.
+// An operation over a column and the casts that wait over it. A cast from unit to unit waits too.
 fn fold_unary<L: Ledger>(
     alloc: Global,
     operation: &UnaryOp,
@@ -111,62 +111,36 @@ fn fold_unary<L: Ledger>(
         IsFolding inputs (fold_over inputs (plan_if valid plan.now) node operation.now operand)
         before steps.new result }
 {
-    match unit_step(operation, node, &below) {
-        UnitStep::Finer(cast) => Ok(Waiting {
-            column: below.column,
-            coarser: below.coarser,
-            finer: Some(cast),
-        }),
-        UnitStep::Coarser(cast) => fold_coarser(alloc, below, cast, plan, valid, steps),
-        UnitStep::Other => {
+    match unit_cast(operation, node, waiting_dtype(&below)) {
+        Some(cast) => fold_cast(alloc, below, cast, plan, valid),
+        None => {
             let column = settled(alloc, below, steps)?;
             none_waits(counted(unary_column(alloc, operation, &column, node), steps))
         }
     }
 }
 
-// A cast to a coarser unit over a column and the casts that wait over it.
-fn fold_coarser<L: Ledger>(
+// A cast over those that wait: it joins the last one where that one leads the same way, and is left
+// out together with one that it turns back.
+fn fold_cast(
     alloc: Global,
     below: Waiting,
     cast: UnitCast,
     plan: &RangePlan,
     valid: bool,
-    steps: &mut Steps<L>,
 ) -> Result<Waiting, EvalError>
-    ensures folded { (inputs : List Column) (operand : Numbered) (before : ℕ) →
-        IsWaiting inputs operand before steps.old below →
-        LeadsCoarser (dtype_of inputs operand.tree) cast →
+    ensures folded { (inputs : List Column) (operand : Numbered) (before after : ℕ) →
+        IsWaiting inputs operand before after below → Leads (dtype_of inputs operand.tree) cast →
         IsFolding inputs (fold_cast inputs (plan_if valid plan.now) cast.node operand cast.target
-        NonStrict) before steps.new result }
+        NonStrict) before after result }
 {
-    let Waiting {
-        column,
-        coarser,
-        finer,
-    } = below;
-    match finer {
-        None => Ok(Waiting {
-            column,
-            coarser: Some(cast),
-            finer: None,
-        }),
-        Some(finer) => {
-            if is_back(&column, &coarser, &cast) && is_covered(plan, valid, finer.node) {
-                return Ok(Waiting {
-                    column,
-                    coarser,
-                    finer: None,
-                });
-            }
-            let column = done(alloc, column, coarser, steps)?;
-            let column = done(alloc, column, Some(finer), steps)?;
-            Ok(Waiting {
-                column,
-                coarser: Some(cast),
-                finer: None,
-            })
-        }
+    let below = joined(below, &cast);
+    if turns_back(&below, &cast, plan, valid) {
+        return Ok(under_last(below));
+    }
+    match Box::new(alloc, below) {
+        Ok(below) => Ok(Waiting::Cast(below, cast)),
+        Err(_) => Err(EvalError::NoMemory),
     }
 }
 
@@ -180,29 +154,29 @@ fn settled<L: Ledger>(
         IsWaiting inputs folded before steps.old waiting →
         IsReady inputs folded before steps.new result }
 {
-    let column = done(alloc, waiting.column, waiting.coarser, steps)?;
-    done(alloc, column, waiting.finer, steps)
+    match waiting {
+        Waiting::Column(column) => Ok(column),
+        Waiting::Cast(below, cast) => {
+            let column = settled(alloc, Box::into_inner(below), steps)?;
+            done(alloc, &column, cast, steps)
+        }
+    }
 }
 
-// The column once a cast is done that waits, if there is one.
+// The column once a cast is done that waits.
 fn done<L: Ledger>(
     alloc: Global,
-    column: Series,
-    cast: Option<UnitCast>,
+    column: &Series,
+    cast: UnitCast,
     steps: &mut Steps<L>,
 ) -> Result<Series, EvalError>
     ensures ready { (inputs : List Column) (folded : Numbered) (before : ℕ) →
-        IsFine inputs folded.numbers folded.tree (column_of column) →
+        IsFine inputs folded.numbers folded.tree (column_of column.now) →
         steps.old ≡ before + step_count inputs folded.tree →
-        IsReady inputs (with_cast cast folded) before steps.new result }
+        IsReady inputs (cast_over cast.node folded cast.target NonStrict) before steps.new result }
 {
-    match cast {
-        None => Ok(column),
-        Some(cast) => {
-            let operation = UnaryOp::Cast(cast.target, CastOptions::NonStrict);
-            counted(unary_column(alloc, &operation, &column, cast.node), steps)
-        }
-    }
+    let operation = UnaryOp::Cast(cast.target, CastOptions::NonStrict);
+    counted(unary_column(alloc, &operation, column, cast.node), steps)
 }
 
 // An answer over which nothing waits.
@@ -212,58 +186,29 @@ fn none_waits(answer: Result<Series, EvalError>) -> Result<Waiting, EvalError>
         IsFolding inputs folded before after result }
 {
     match answer {
-        Ok(column) => Ok(Waiting {
-            column,
-            coarser: None,
-            finer: None,
-        }),
+        Ok(column) => Ok(Waiting::Column(column)),
         Err(refusal) => Err(refusal),
     }
 }
 
-// ---- steps from unit to unit
+// ---- casts from unit to unit
 
-// What the operation of a node does to the unit of a column once all that waits is done.
-fn unit_step(operation: &UnaryOp, node: u32, below: &Waiting) -> UnitStep
-    ensures step { IsUnitStep (waiting_dtype below.now) node operation.now result }
+// The cast that the operation of a node is, if it leads from this type to another unit.
+fn unit_cast(operation: &UnaryOp, node: u32, dtype: &DataType) -> Option<UnitCast>
+    ensures cast { IsUnitCast dtype.now node operation.now result }
 {
     match operation {
-        UnaryOp::Cast(target, CastOptions::NonStrict) => {
-            match unit_change_to(waiting_dtype(below), target) {
-                Some(UnitChange::Finer(_)) => UnitStep::Finer(unit_cast(node, target)),
-                Some(UnitChange::Coarser(_)) => UnitStep::Coarser(unit_cast(node, target)),
-                _ => UnitStep::Other,
-            }
-        }
-        _ => UnitStep::Other,
+        UnaryOp::Cast(target, CastOptions::NonStrict) => match unit_step(dtype, target) {
+            Some(UnitChange::Finer(_)) => Some(cast_to(target, node, Way::Finer)),
+            Some(UnitChange::Coarser(_)) => Some(cast_to(target, node, Way::Coarser)),
+            _ => None,
+        },
+        _ => None,
     }
 }
 
-fn unit_cast(node: u32, target: &DataType) -> UnitCast
-    requires flat { is_nested target.now ≡ false }
-    requires built { is_built_cast target.now ≡ true }
-    ensures node { result.node ≡ node }
-    ensures target { result.target ≡ target.now }
-{
-    UnitCast {
-        node,
-        target: target.clone_flat(),
-    }
-}
-
-// The type above all that waits.
-fn waiting_dtype(waiting: &Waiting) -> &DataType
-    ensures dtype { result.now ≡ waiting_dtype waiting.now }
-{
-    match (&waiting.finer, &waiting.coarser) {
-        (Some(cast), _) => &cast.target,
-        (None, Some(cast)) => &cast.target,
-        (None, None) => waiting.column.dtype(),
-    }
-}
-
-// The change of unit from one type to another, if a cast that doesn't refuse makes that and no more.
-fn unit_change_to(from: &DataType, target: &DataType) -> Option<UnitChange>
+// The change of unit from one type to another, if a cast makes that and is never refused.
+fn unit_step(from: &DataType, target: &DataType) -> Option<UnitChange>
     ensures step { result ≡ unit_step_by NonStrict from.now target.now }
 {
     if !target.is_expression_target() {
@@ -276,14 +221,76 @@ fn unit_change_to(from: &DataType, target: &DataType) -> Option<UnitChange>
     }
 }
 
-// Whether a cast leads back to the type under the cast to a finer unit.
-fn is_back(column: &Series, coarser: &Option<UnitCast>, cast: &UnitCast) -> bool
-    ensures back { result
-        ≡ same_type (dtype_over coarser.now (column_of column.now).dtype) cast.now.target }
+fn cast_to(target: &DataType, node: u32, way: Way) -> UnitCast
+    requires flat { is_nested target.now ≡ false }
+    requires built { is_built_cast target.now ≡ true }
+    ensures node { result.node ≡ node }
+    ensures target { result.target ≡ target.now }
+    ensures way { result.way ≡ way }
 {
-    match coarser {
-        Some(under) => under.target.is_same(&cast.target),
-        None => column.dtype().is_same(&cast.target),
+    UnitCast {
+        node,
+        target: target.clone_flat(),
+        way,
+    }
+}
+
+// The type above all that waits.
+fn waiting_dtype(waiting: &Waiting) -> &DataType
+    ensures dtype { result.now ≡ waiting_dtype waiting.now }
+{
+    match waiting {
+        Waiting::Column(column) => column.dtype(),
+        Waiting::Cast(_, cast) => &cast.target,
+    }
+}
+
+// What a cast stands over once it is joined.
+fn joined(below: Waiting, cast: &UnitCast) -> Waiting
+    ensures joined { result ≡ joined_waiting below cast.now }
+{
+    match below {
+        Waiting::Column(column) => Waiting::Column(column),
+        Waiting::Cast(below, last) => {
+            if same_way(last.way, cast.way) {
+                Box::into_inner(below)
+            } else {
+                Waiting::Cast(below, last)
+            }
+        }
+    }
+}
+
+// What stands under the last cast.
+fn under_last(waiting: Waiting) -> Waiting
+    ensures under { result ≡ under_last waiting }
+{
+    match waiting {
+        Waiting::Column(column) => Waiting::Column(column),
+        Waiting::Cast(below, _) => Box::into_inner(below),
+    }
+}
+
+fn same_way(first: Way, second: Way) -> bool
+    ensures same { result ≡ same_way first second }
+{
+    matches!(
+        (first, second),
+        (Way::Finer, Way::Finer) | (Way::Coarser, Way::Coarser)
+    )
+}
+
+// Whether a cast turns back the last one that waits, which a valid plan covers.
+fn turns_back(below: &Waiting, cast: &UnitCast, plan: &RangePlan, valid: bool) -> bool
+    ensures back { result ≡ last_turns_back (plan_if valid plan.now) below.now cast.now }
+{
+    match below {
+        Waiting::Column(_) => false,
+        Waiting::Cast(below, last) => match (last.way, cast.way) {
+            (Way::Finer, Way::Coarser) => waiting_dtype(below).is_same(&cast.target)
+                && is_covered(plan, valid, last.node),
+            _ => false,
+        },
     }
 }
 
