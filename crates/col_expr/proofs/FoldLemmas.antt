@@ -149,7 +149,7 @@ stays inputs plan numbers e c o f trusted is alone =
 
 -- ---- a cast that is joined with its operand
 
-option_or-none : (refused : Option EvalError) → option_or refused None ≡ refused
+pub option_or-none : (refused : Option EvalError) → option_or refused None ≡ refused
 option_or-none None = refl
 option_or-none (Some error) = refl
 
@@ -209,14 +209,14 @@ joined inputs plan numbers ns e g b c first o s t trusted is one two way =
       number = λ m h. refl;
     }
 
-record GoOn (p q : Option UnitChange) : Type 0 where
-  s : UnitChange
-  t : UnitChange
-  first : p ≡ Some s
-  second : q ≡ Some t
-  way : OneWay s t
+pub record GoOn (p q : Option UnitChange) : Type 0 where
+  pub s : UnitChange
+  pub t : UnitChange
+  pub first : p ≡ Some s
+  pub second : q ≡ Some t
+  pub way : OneWay s t
 
-go_on : (p q : Option UnitChange) → goes_on p q ≡ true → GoOn p q
+pub go_on : (p q : Option UnitChange) → goes_on p q ≡ true → GoOn p q
 go_on (Some s) (Some t) h =
     record { s = s; t = t; first = refl; second = refl; way = goes_on-parts s t h }
 go_on None q h = cc
@@ -255,13 +255,13 @@ join_by inputs plan numbers e c o (Shift g periods) ns trusted is true h = cc
 
 -- ---- a cast that turns back its operand
 
-record TurnBack (p q : Option UnitChange) : Type 0 where
-  m : ℕ
-  n : ℕ
-  first : p ≡ Some (Finer m)
-  second : q ≡ Some (Coarser n)
+pub record TurnBack (p q : Option UnitChange) : Type 0 where
+  pub m : ℕ
+  pub n : ℕ
+  pub first : p ≡ Some (Finer m)
+  pub second : q ≡ Some (Coarser n)
 
-turn_back : (p q : Option UnitChange) → turns_back p q ≡ true → TurnBack p q
+pub turn_back : (p q : Option UnitChange) → turns_back p q ≡ true → TurnBack p q
 turn_back (Some (Finer m)) (Some (Coarser n)) h =
     record { m = m; n = n; first = refl; second = refl }
 turn_back p q h = cc

@@ -12,3 +12,4 @@ pub mod FoldSteps
 pub mod FoldTurns
 pub mod FoldLemmas
 pub mod FoldWaiting
+pub mod FoldNodes

@@ -6,6 +6,8 @@ mod error;
 mod evaluation;
 mod expr;
 mod fold_laws;
+#[cfg(test)]
+mod fold_tests;
 mod folded;
 mod inputs;
 mod interval;
