@@ -5,6 +5,7 @@ use Rattle.std.specs.Option.{option_or}
 use Rattle.std.proofs.lemmas.Bool.{and_parts}
 use Rattle.col_types.specs.declared.data_type.DataType.{DataType}
 use Rattle.col_types.specs.declared.cast_options.CastOptions.{CastOptions}
+use Rattle.col_types.specs.declared.cast_options.CastOptions.TheVariants.{NonStrict}
 use Rattle.col_types.specs.declared.operator.BinOp.{BinOp}
 use Rattle.col_model.specs.Column.{Column}
 use Rattle.col_model.specs.Chunked.{Chunked, column_of}
@@ -14,6 +15,7 @@ use Rattle.col_model.specs.declared.ticks.UnitChange.TheVariants.{Finer}
 use Rattle.col_expr.specs.declared.error.EvalError.{EvalError}
 use Rattle.col_expr.specs.declared.node.UnaryOp.{UnaryOp}
 use Rattle.col_expr.specs.declared.node.UnaryOp.TheVariants as operations
+use Rattle.col_expr.specs.declared.waiting.UnitCast.{UnitCast}
 use Rattle.col_expr.specs.declared.waiting.Waiting.{Waiting}
 use Rattle.col_expr.specs.Tree.{Tree, Input, Cast, Binary, ScalarRight, ScalarLeft, InUnit, Shift, node_count}
 use Rattle.col_expr.specs.Node.{over}
@@ -22,14 +24,14 @@ use Rattle.col_expr.specs.Meaning.{dtype_of, step_count}
 use Rattle.col_expr.specs.Refusal.{Unless, GivesBy, refusal_at, first_refusal}
 use Rattle.col_expr.specs.Found.{IsFine, numbered}
 use Rattle.col_expr.specs.Plan.{Plan}
-use Rattle.col_expr.specs.Folded.{Numbered, step_of, goes_on, turns_back, is_type, is_covered, cast_operand, under_cast, cast_over, joined_operand, turned_cast, folded_by}
-use Rattle.col_expr.specs.Waiting.{IsLevel, fold_over, IsReady, IsFolding}
+use Rattle.col_expr.specs.Folded.{Numbered, step_of, goes_on, turns_back, is_type, is_covered, cast_operand, under_cast, cast_over, joined_operand, turned_cast, fold_cast, folded_by}
+use Rattle.col_expr.specs.Waiting.{waiting_dtype, IsLevel, Leads, IsUnitCast, fold_over, IsWaiting, IsReady, IsFolding}
 use Rattle.col_expr.proofs.NodeLemmas.{Unless-map}
 use Rattle.col_expr.proofs.BinaryLemmas.{found_binary, steps_binary}
 use Rattle.col_expr.proofs.FoldFacts.{facts}
 use Rattle.col_expr.proofs.FoldSteps.{step_is}
 use Rattle.col_expr.proofs.FoldLemmas.{option_or-none, go_on, turn_back}
-use Rattle.col_expr.proofs.FoldWaiting.{folded_over}
+use Rattle.col_expr.proofs.FoldWaiting.{with_operation, folded_over, fold_as, unfolded, whole_dtype}
 
 -- ---- refusals
 
@@ -104,7 +106,40 @@ fold_refused inputs plan node (operations.InUnit unit) f error refused =
 fold_refused inputs plan node (operations.Shift periods) f error refused =
     ap (λ r. option_or r (refusal_at inputs node (Shift f.tree periods))) refused
 
+pub over_refused : (inputs : List Column) (plan : Plan) (node : ℕ) (op : UnaryOp) (f : Numbered)
+    (error : EvalError) → Unless error (refused_as inputs error f) →
+    Unless error (refused_as inputs error (fold_over inputs plan node op f))
+over_refused inputs plan node op f error =
+    Unless-map error (λ h. fold_refused inputs plan node op f error h)
+
 -- ---- a node over one operand
+
+-- a cast that is folded is the node's operation
+pub cast_folds : (inputs : List Column) (plan : Plan) (f : Numbered) (before after : ℕ)
+    (w : Waiting) (node : ℕ) (op : UnaryOp) (cast : UnitCast) (answer : Result Waiting EvalError) →
+    IsWaiting inputs f before after w → IsUnitCast (waiting_dtype w) node op (Some cast) →
+    (Leads (dtype_of inputs f.tree) cast →
+    IsFolding inputs (fold_cast inputs plan cast.node f cast.target NonStrict) before after
+    answer) →
+    IsFolding inputs (fold_over inputs plan node op f) before after answer
+cast_folds inputs plan f before after w node op cast answer is unit folds =
+    let P : Option DataType → Type 0 = λ dtype. Leads dtype cast in
+    let Q : Numbered → Type 0 = λ g. IsFolding inputs g before after answer in
+    subst Q (sym (fold_as inputs plan f node op cast unit.0 unit.1))
+    (folds (subst P (sym (whole_dtype inputs f before after w is)) unit.2))
+
+-- and an operation that isn't one is done at once
+pub operation_folds : (inputs : List Column) (plan : Plan) (f : Numbered)
+    (before now after : ℕ) (w : Waiting) (node : ℕ) (op : UnaryOp)
+    (answer : Result Waiting EvalError) → IsWaiting inputs f before now w →
+    IsUnitCast (waiting_dtype w) node op None →
+    (IsLevel (step_of inputs (over op f.tree)) →
+    IsFolding inputs (with_operation node op f) before after answer) →
+    IsFolding inputs (fold_over inputs plan node op f) before after answer
+operation_folds inputs plan f before now after w node op answer is level folds =
+    let u = unfolded inputs plan f before now w node op is level in
+    let Q : Numbered → Type 0 = λ g. IsFolding inputs g before after answer in
+    subst Q (sym u.is) (folds u.level)
 
 under_over : (first : ℕ) (op : UnaryOp) (tree : Tree) →
     below (numbers_from first (over op tree)) ≡ numbers_from first tree
