@@ -8,18 +8,24 @@ use Rattle.col_types.specs.declared.data_type.DataType.{DataType, Date, Datetime
 use Rattle.col_types.specs.declared.cast_options.CastOptions.TheVariants.{NonStrict}
 use Rattle.col_model.specs.Column.{Column, is_built_type}
 use Rattle.col_model.specs.CastTable.{CastRule, cast_rule}
-use Rattle.col_model.specs.ColumnCalls.{cast_of, cast_column, unless_refused, cast_refusal}
-use Rattle.col_series.proofs.TypeLemmas.{by_built_type, built_good}
+use Rattle.col_model.specs.ColumnCalls.{cast_of, unless_refused, cast_refusal}
+use Rattle.col_series.proofs.TypeLemmas.{by_built_type, built_good, built_settled}
 use Rattle.col_arith.specs.Coercion.{CanCast, cast_to, coerced_types, both}
 
 -- a cast to such a type is not refused
-pub cast_taken : (column : Column) (target : DataType) → CanCast column.dtype target → cast_of column target NonStrict ≡ Ok (cast_to column target)
-cast_taken column target can = go (cast_rule column.dtype target NonStrict) can.listed
+pub cast_given : (column : Column) (target : DataType) → CanCast column.dtype target → cast_of column target NonStrict ≡ Ok (cast_to column target)
+cast_given column target can =
+    rw (built_settled column.dtype target can.built) (go (cast_rule column.dtype target NonStrict) can.listed)
   where
     go : (rule : Option CastRule) → is_some rule ≡ true
-        → unless_refused (cast_refusal column.dtype target NonStrict rule column.slots) (cast_column column target rule) ≡ Ok (cast_column column target rule)
+        → unless_refused (cast_refusal column.dtype target NonStrict rule column.slots) (cast_to column target) ≡ Ok (cast_to column target)
     go None h = cc
     go (Some rule) h = rw (built_good target can.built) refl
+
+-- the same type or another, a rule is there
+either : (same : Bool) (first second : CastRule) → is_some (cond same (Some first) (Some second)) ≡ true
+either true first second = refl
+either false first second = refl
 
 -- where there are types, a cast leads to each
 abbrev CanCastBoth : DataType → DataType → Option (DataType × DataType) → Type 0
@@ -32,8 +38,8 @@ IsCoercible left right = is_built_type left ≡ true → is_built_type right ≡
 date_coercible : (right : DataType) → is_built_type right ≡ true → IsCoercible Date right
 date_coercible = by_built_type (IsCoercible Date)
     (λ l r. (record { built = refl; listed = refl }, record { built = refl; listed = refl }))
-    (λ unit zone l r. (record { built = r; listed = refl }, record { built = r; listed = refl }))
-    (λ unit l r. (record { built = refl; listed = refl }, record { built = refl; listed = refl }))
+    (λ unit zone l r. (record { built = r; listed = refl }, record { built = r; listed = either _ _ _ }))
+    (λ unit l r. (record { built = refl; listed = refl }, record { built = refl; listed = either _ _ _ }))
     (λ l r. tt)
 
 datetimes_coercible : (u v : TimeUnit) (y z : Option (List ℕ)) → IsCoercible (Datetime u y) (Datetime v z)
@@ -41,23 +47,23 @@ datetimes_coercible u v y z l r = go (same_unit u v) (same_zone y z)
   where
     go : (units zones : Bool) → CanCastBoth (Datetime u y) (Datetime v z)
         (option_map both (cond (units && zones) (Some (Datetime u y)) (cond zones (Some (Datetime (coarser_unit u v) y)) None)))
-    go true true = (record { built = l; listed = refl }, record { built = l; listed = refl })
-    go false true = (record { built = l; listed = refl }, record { built = l; listed = refl })
+    go true true = (record { built = l; listed = either _ _ _ }, record { built = l; listed = either _ _ _ })
+    go false true = (record { built = l; listed = either _ _ _ }, record { built = l; listed = either _ _ _ })
     go true false = tt
     go false false = tt
 
 datetime_coercible : (u : TimeUnit) (y : Option (List ℕ)) (right : DataType) → is_built_type right ≡ true → IsCoercible (Datetime u y) right
 datetime_coercible u y = by_built_type (IsCoercible (Datetime u y))
-    (λ l r. (record { built = l; listed = refl }, record { built = l; listed = refl }))
+    (λ l r. (record { built = l; listed = either _ _ _ }, record { built = l; listed = refl }))
     (λ unit zone. datetimes_coercible u unit y zone)
-    (λ unit l r. (record { built = l; listed = refl }, record { built = refl; listed = refl }))
+    (λ unit l r. (record { built = l; listed = either _ _ _ }, record { built = refl; listed = either _ _ _ }))
     (λ l r. tt)
 
 duration_coercible : (u : TimeUnit) (right : DataType) → is_built_type right ≡ true → IsCoercible (Duration u) right
 duration_coercible u = by_built_type (IsCoercible (Duration u))
-    (λ l r. (record { built = refl; listed = refl }, record { built = refl; listed = refl }))
-    (λ unit zone l r. (record { built = refl; listed = refl }, record { built = r; listed = refl }))
-    (λ unit l r. (record { built = refl; listed = refl }, record { built = refl; listed = refl }))
+    (λ l r. (record { built = refl; listed = either _ _ _ }, record { built = refl; listed = refl }))
+    (λ unit zone l r. (record { built = refl; listed = either _ _ _ }, record { built = r; listed = either _ _ _ }))
+    (λ unit l r. (record { built = refl; listed = either _ _ _ }, record { built = refl; listed = either _ _ _ }))
     (λ l r. tt)
 
 time_coercible : (right : DataType) → is_built_type right ≡ true → IsCoercible Time right

@@ -1,5 +1,5 @@
--- Columns of ticks under the tables' rows.
-use Rattle.std.specs.Prelude.{◌≡◌, ◌<◌, ◌^◌, ℕ, zero, suc, ℤ, Bool, true, false, List, [], ◌∷◌, length, map, Option, Some, None, slice_index_or, nat_eq, cond, Ok}
+-- Columns of ticks under the tables' rules.
+use Rattle.std.specs.Prelude.{◌≡◌, ◌<◌, ◌^◌, ℕ, zero, suc, ℤ, Bool, true, false, List, [], ◌∷◌, length, map, Option, Some, None, slice_index_or, nat_eq, cond, Ok, Err}
 use Rattle.std.specs.List.{range_with_len}
 use Rattle.std.specs.Option.{option_and_then}
 use Rattle.std.specs.Int.{w64, cast_signed, cast_unsigned}
@@ -9,12 +9,14 @@ use Rattle.col_series.proofs.TypeLemmas.{wider}
 use Rattle.std.proofs.Common.{refl, sym, ap, ◌∙◌}
 use Rattle.std.proofs.lemmas.List.{length-map}
 use Rattle.std.proofs.lemmas.List.FromFn.{length-map-range_with_len}
+use Rattle.col_types.specs.declared.error.PolarsError.TheVariants as errors
 use Rattle.col_types.specs.declared.is_sorted.IsSorted.TheVariants.{Not}
 use Rattle.col_model.specs.Value.{Value, integer_slot, on_slot, on_slots}
 use Rattle.col_model.specs.Broadcast.{broadcast_length, operand_row, column_slots}
-use Rattle.col_model.specs.Column.{Column, physical_word}
+use Rattle.col_model.specs.Column.{Column}
 use Rattle.col_model.specs.Formula.{Formula, value_of, on_both}
-use Rattle.col_model.specs.OperatorCalls.{binary_column, ruled_column, slots_by, operand_slot}
+use Rattle.col_model.specs.Formula.{slots_by}
+use Rattle.col_model.specs.OperatorCalls.{binary_column, ruled_column, operand_slot}
 use Rattle.col_model.specs.Arithmetic.{Interval, Signed, fitting_value, is_within, word_values}
 use Rattle.col_model.specs.ScalarTable.{right_form, left_form}
 use Rattle.col_series.specs.Slots.{ticks_column}
@@ -24,10 +26,10 @@ use Rattle.col_arith.specs.declared.scalars.ScalarForm.TheVariants.{Right, Left}
 use Rattle.col_arith.specs.declared.scalars.Ticks.{Ticks}
 use Rattle.col_arith.specs.declared.scalars.Ticks.TheVariants.{Days, Times, Wide}
 use Rattle.col_arith.specs.ScalarForm.{FitsType, bounded_by, word_of, scalar_of, scalar_ticks}
-use Rattle.col_arith.specs.declared.operators.Rule.{Rule}
-use Rattle.col_arith.specs.declared.operators.OperatorRow.{OperatorRow}
-use Rattle.col_arith.specs.OperatorRow.{formula_of, operator_rule_of}
-use Rattle.col_arith.specs.Rows.{tick_for, met_row, met_ticks}
+use Rattle.col_arith.specs.declared.pair_rule.TypedRule.{TypedRule}
+use Rattle.col_arith.specs.declared.pair_rule.PairRule.{PairRule}
+use Rattle.col_arith.specs.PairRule.{formula_of, operator_rule_of}
+use Rattle.col_arith.specs.Pairs.{tick_for, pair_row, pair_ticks}
 
 -- ---- two columns
 
@@ -53,12 +55,12 @@ slot_for-tick ticks row =
     ap (λ (n : ℕ). slice_index_or (map integer_slot ticks) (operand_row n row) None) (length-map ticks integer_slot)
     ∙ slot_at-tick ticks (operand_row (length ticks) row)
 
-row-tick : (row : OperatorRow) (left right : List (Option ℤ)) (index : ℕ)
-    → on_slots (value_of (formula_of row)) (slot_for (map integer_slot left) index) (slot_for (map integer_slot right) index) ≡ integer_slot (met_row row left right index)
-row-tick row left right index =
-    ap (λ (s : Option Value). on_slots (value_of (formula_of row)) s (slot_for (map integer_slot right) index)) (slot_for-tick left index)
-    ∙ ap (λ (s : Option Value). on_slots (value_of (formula_of row)) (integer_slot (tick_for left index)) s) (slot_for-tick right index)
-    ∙ on_slots-ticks (value_of (formula_of row)) (tick_for left index) (tick_for right index)
+row-tick : (rule : PairRule) (left right : List (Option ℤ)) (row : ℕ)
+    → on_slots (value_of (formula_of rule)) (slot_for (map integer_slot left) row) (slot_for (map integer_slot right) row) ≡ integer_slot (pair_row rule left right row)
+row-tick rule left right row =
+    ap (λ (s : Option Value). on_slots (value_of (formula_of rule)) s (slot_for (map integer_slot right) row)) (slot_for-tick left row)
+    ∙ ap (λ (s : Option Value). on_slots (value_of (formula_of rule)) (integer_slot (tick_for left row)) s) (slot_for-tick right row)
+    ∙ on_slots-ticks (value_of (formula_of rule)) (tick_for left row) (tick_for right row)
 
 each-row : (f : ℕ → Option Value) (g : ℕ → Option ℤ) → ((row : ℕ) → f row ≡ integer_slot (g row)) → (rows : List ℕ)
     → map f rows ≡ map integer_slot (map g rows)
@@ -67,16 +69,16 @@ each-row f g same (row ∷ rows) =
     ap (λ (s : Option Value). s ∷ map f rows) (same row) ∙ ap (λ (l : List (Option Value)). integer_slot (g row) ∷ l) (each-row f g same rows)
 
 -- the rows of two columns are the rows of their ticks
-pub binary-ticks : (left right : Column) (first second ticks : List (Option ℤ)) (rows : ℕ) (rule : Rule)
-    → map integer_slot first ≡ left.slots → map integer_slot second ≡ right.slots → ticks ≡ met_ticks rule.row first second rows
-    → ticks_column left.name rule.dtype ticks ≡ binary_column left right rows (operator_rule_of rule)
+pub binary-ticks : (left right : Column) (first second ticks : List (Option ℤ)) (rows : ℕ) (typed : TypedRule)
+    → map integer_slot first ≡ left.slots → map integer_slot second ≡ right.slots → ticks ≡ pair_ticks typed.rule first second rows
+    → ticks_column left.name typed.dtype ticks ≡ binary_column left right rows (operator_rule_of typed)
 unfolding slot_for
-binary-ticks left right first second ticks rows rule e f g =
-    let same : (index : ℕ) → slots_by (operator_rule_of rule) (operand_slot left index) (operand_slot right index) ≡ integer_slot (met_row rule.row first second index) =
-    λ index. rw (← e, ← f) (row-tick rule.row first second index) in
-    let slots : map integer_slot ticks ≡ column_slots (λ row. slots_by (operator_rule_of rule) (operand_slot left row) (operand_slot right row)) rows =
-    ap (λ (l : List (Option ℤ)). map integer_slot l) g ∙ sym (each-row _ (met_row rule.row first second) same (range_with_len 0 rows)) in
-    let filled : List (Option Value) → Column = λ slots. record { name = left.name; dtype = rule.dtype; slots = slots; flag = Not } in
+binary-ticks left right first second ticks rows typed e f g =
+    let same : (row : ℕ) → slots_by (formula_of typed.rule) (operand_slot left row) (operand_slot right row) ≡ integer_slot (pair_row typed.rule first second row) =
+    λ row. rw (← e, ← f) (row-tick typed.rule first second row) in
+    let slots : map integer_slot ticks ≡ column_slots (λ row. slots_by (formula_of typed.rule) (operand_slot left row) (operand_slot right row)) rows =
+    ap (λ (l : List (Option ℤ)). map integer_slot l) g ∙ sym (each-row _ (pair_row typed.rule first second) same (range_with_len 0 rows)) in
+    let filled : List (Option Value) → Column = λ slots. record { name = left.name; dtype = typed.dtype; slots = slots; flag = Not } in
     ap filled slots
 
 -- and there are not too many
@@ -95,12 +97,12 @@ rows-short left right rows e f g = go (nat_eq left right) (nat_eq left 1) (nat_e
     go false false true e = rw (same_left e) at f
     go false false false e = cc
 
-pub met-length : (row : OperatorRow) (left right ticks : List (Option ℤ)) (rows : ℕ) → ticks ≡ met_ticks row left right rows → length ticks ≡ rows
-met-length row left right ticks rows e = ap (λ (l : List (Option ℤ)). length l) e ∙ length-map-range_with_len (met_row row left right) 0 rows
+pub pair-length : (rule : PairRule) (left right ticks : List (Option ℤ)) (rows : ℕ) → ticks ≡ pair_ticks rule left right rows → length ticks ≡ rows
+pair-length rule left right ticks rows e = ap (λ (l : List (Option ℤ)). length l) e ∙ length-map-range_with_len (pair_row rule left right) 0 rows
 
 -- ---- a column and an integer
 
--- each slot of a column under a row of a table, as ticks
+-- each slot of a column under a rule, as ticks
 ruled-ticks : (column : Column) (formula : Formula) (slots joined : List (Option ℤ)) → map integer_slot slots ≡ column.slots
     → joined ≡ map (option_and_then (λ x. value_of formula x x)) slots
     → ruled_column column (record { dtype = column.dtype; formula = formula }) ≡ ticks_column column.name column.dtype joined
@@ -123,13 +125,26 @@ in_word-wide Days k h = to_z-of_z w64 k (held_from_within (Signed w64) k (wider 
 in_word-wide Times k h = to_z-of_z w64 k (held_from_within (Signed w64) k h)
 in_word-wide Wide k h = to_z-of_z w64 k (held_from_within (Signed w64) k h)
 
--- the integer that the word holds is joined with each slot
-pub scalar_taken : (column : Column) (form : ScalarForm) (k l : ℤ) (ticks : Ticks) (slots joined : List (Option ℤ))
-    → Some (word_of ticks) ≡ physical_word column.dtype → FitsType column.dtype ticks
+-- an integer that the word doesn't hold is refused
+pub scalar_refused : (column : Column) (form : ScalarForm) (k : ℤ) (ticks : Ticks) → FitsType column.dtype ticks
+    → None ≡ fitting_value (word_values (word_of ticks)) k → scalar_of column form k ≡ Err (errors.Scalar k)
+scalar_refused column form k ticks fits e = go form (outside (is_within (word_values (word_of ticks)) k) e)
+  where
+    outside : (within : Bool) → None ≡ cond within (Some k) None → within ≡ false
+    outside true e = cc
+    outside false e = refl
+
+    go : (form : ScalarForm) → is_within (word_values (word_of ticks)) k ≡ false → scalar_of column form k ≡ Err (errors.Scalar k)
+    go (Right op) out = rw (fits.answer, fits.word) (rw fits.word (rw out refl))
+    go (Left op) out = rw (fits.answer, fits.word) (rw fits.word (rw out refl))
+
+-- and one that it holds is joined with each slot
+pub scalar_given : (column : Column) (form : ScalarForm) (k l : ℤ) (ticks : Ticks) (slots joined : List (Option ℤ))
+    → FitsType column.dtype ticks
     → Some l ≡ fitting_value (word_values (word_of ticks)) k → map integer_slot slots ≡ column.slots
     → joined ≡ scalar_ticks ticks form (cast_signed w64 (cast_unsigned w64 l)) slots
     → scalar_of column form k ≡ Ok (ticks_column column.name column.dtype joined)
-scalar_taken column form k l ticks slots joined word fits e f g =
+scalar_given column form k l ticks slots joined fits e f g =
     let same = fitting_same (word_values (word_of ticks)) k l e in
     let is : joined ≡ scalar_ticks ticks form k slots =
     g ∙ ap (λ (v : ℤ). scalar_ticks ticks form (cast_signed w64 (cast_unsigned w64 v)) slots) same.0
@@ -139,8 +154,8 @@ scalar_taken column form k l ticks slots joined word fits e f g =
     go : (form : ScalarForm) → joined ≡ scalar_ticks ticks form k slots → is_within (word_values (word_of ticks)) k ≡ true
         → scalar_of column form k ≡ Ok (ticks_column column.name column.dtype joined)
     go (Right op) is within =
-        rw (← word) (rw (← word) (rw (within, fits.bound (right_form op k (word_of ticks)))
+        rw (fits.answer, fits.word) (rw fits.word (rw (within, fits.bound (right_form op k (word_of ticks)))
         (ap Ok (ruled-ticks column (bounded_by ticks (right_form op k (word_of ticks))) slots joined f is))))
     go (Left op) is within =
-        rw (← word) (rw (← word) (rw (within, fits.bound (left_form k op (word_of ticks)))
+        rw (fits.answer, fits.word) (rw fits.word (rw (within, fits.bound (left_form k op (word_of ticks)))
         (ap Ok (ruled-ticks column (bounded_by ticks (left_form k op (word_of ticks))) slots joined f is))))

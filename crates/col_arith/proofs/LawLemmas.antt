@@ -1,4 +1,4 @@
--- What an operator makes of ticks, the other one takes back.
+-- What an operator makes of ticks, the other one gives back.
 use Rattle.std.specs.Prelude.{◌≡◌, ◌+◌, ◌-◌, ◌*◌, ◌%◌, ◌<◌, ◌+ℤ◌, ◌-ℤ◌, ◌*ℤ◌, ℕ, zero, suc, ℤ, pos, negsuc, neg_ℤ, true, List, length, Option, Some, None, Result, Ok, FitsSigned}
 use Rattle.std.specs.Int.{w32, w64, int_wrapping_add, int_wrapping_sub, cast_signed, cast_unsigned}
 use Rattle.std.proofs.Common.{refl, ap, sym, ◌∙◌, cond, arith, mod-lt}
@@ -14,11 +14,11 @@ use Rattle.col_types.specs.declared.error.PolarsError.{PolarsError}
 use Rattle.col_model.specs.Arithmetic.{Signed, wrapped_value, fitting_value, floor_by, is_within, word_values}
 use Rattle.col_model.specs.Value.{Value, Flat, Nested, Whole, Bytes, integer_slot}
 use Rattle.col_model.specs.Column.{Column, is_slot_of}
-use Rattle.col_model.specs.Formula.{Formula, X, Y, Sum, Difference, value_of}
+use Rattle.col_model.specs.Formula.{Formula, X, Y, Sum, Difference, value_of, slots_by}
 use Rattle.col_model.specs.UnitChange.{unit_change, times}
 use Rattle.col_model.specs.declared.ticks.UnitChange.TheVariants.{Same}
 use Rattle.col_model.specs.OperatorTable.{OperatorRule, operator_rule, wrapping, date_joined}
-use Rattle.col_model.specs.OperatorCalls.{binary_of, binary_column, slots_by, slot_in}
+use Rattle.col_model.specs.OperatorCalls.{binary_of, binary_column, slot_in}
 use Rattle.col_kernel.specs.WordLaws.{held-wrapped, held_from_within, wrapped-held}
 use Rattle.col_arith.specs.Laws.{AddThenSubtract, SubtractThenAdd, and_then, where_valid, slots_where_valid}
 use Rattle.col_arith.proofs.TickLemmas.{wrapped-sum, wrapped-difference}
@@ -76,22 +76,22 @@ same_coarser Nanoseconds = refl
 same_coarser Microseconds = refl
 same_coarser Milliseconds = refl
 
--- ticks of one unit, joined in 64 bits
-joined_ticks : (Formula → Formula → Formula) → DataType → OperatorRule
-joined_ticks join dtype = record { dtype = dtype; formula = wrapping join X Y }
+-- ticks of one unit, wrapped to 64 bits
+wrapped_ticks : (Formula → Formula → Formula) → DataType → OperatorRule
+wrapped_ticks join dtype = record { dtype = dtype; formula = wrapping join X Y }
 
-sum_row : (u : TimeUnit) (z : Option (List ℕ)) → operator_rule Add (Datetime u z) (Duration u) ≡ Some (joined_ticks Sum (Datetime u z))
-unfolding joined_ticks
-sum_row u z = rw (same_coarser u) (rw (same_change u) refl)
+own_sum : (u : TimeUnit) (z : Option (List ℕ)) → operator_rule Add (Datetime u z) (Duration u) ≡ Ok (wrapped_ticks Sum (Datetime u z))
+unfolding wrapped_ticks
+own_sum u z = rw (same_coarser u) (rw (same_change u) refl)
 
-difference_row : (u : TimeUnit) (z : Option (List ℕ)) → operator_rule Sub (Datetime u z) (Duration u) ≡ Some (joined_ticks Difference (Datetime u z))
-unfolding joined_ticks
-difference_row u z = rw (same_coarser u) (rw (same_change u) refl)
+own_difference : (u : TimeUnit) (z : Option (List ℕ)) → operator_rule Sub (Datetime u z) (Duration u) ≡ Ok (wrapped_ticks Difference (Datetime u z))
+unfolding wrapped_ticks
+own_difference u z = rw (same_coarser u) (rw (same_change u) refl)
 
 slot-back : (u : TimeUnit) (z : Option (List ℕ)) (moment length : Option Value)
     → is_slot_of (Datetime u z) moment ≡ true → is_slot_of (Duration u) length ≡ true
-    → slots_by (joined_ticks Difference (Datetime u z)) (slots_by (joined_ticks Sum (Datetime u z)) moment length) length ≡ where_valid moment length
-unfolding joined_ticks
+    → slots_by (wrapped_ticks Difference (Datetime u z)).formula (slots_by (wrapped_ticks Sum (Datetime u z)).formula moment length) length ≡ where_valid moment length
+unfolding wrapped_ticks
 slot-back u z None None f g = refl
 slot-back u z None (Some length) f g = refl
 slot-back u z (Some (Flat (Whole x))) None f g = refl
@@ -119,7 +119,7 @@ day-back x y h =
     ∙ ap (λ b. cond b (Some x) None) h
 
 date-back : (date other : Option Value) → is_slot_of Date date ≡ true → is_slot_of Date other ≡ true
-    → slots_by day_after other (slots_by days_apart date other) ≡ where_valid date other
+    → slots_by day_after.formula other (slots_by days_apart.formula date other) ≡ where_valid date other
 unfolding days_apart day_after
 date-back None None f g = refl
 date-back None (Some (Flat (Whole y))) f g = refl
@@ -134,30 +134,30 @@ date-back (Some (Nested l)) other f g = cc
 
 -- ---- columns
 
-back_row : (u : TimeUnit) (z : Option (List ℕ)) (dtype : DataType) → dtype ≡ Duration u
-    → operator_rule Sub (joined_ticks Sum (Datetime u z)).dtype dtype ≡ Some (joined_ticks Difference (Datetime u z))
-unfolding joined_ticks
-back_row u z dtype e = rw e (difference_row u z)
+own_back : (u : TimeUnit) (z : Option (List ℕ)) (dtype : DataType) → dtype ≡ Duration u
+    → operator_rule Sub (wrapped_ticks Sum (Datetime u z)).dtype dtype ≡ Ok (wrapped_ticks Difference (Datetime u z))
+unfolding wrapped_ticks
+own_back u z dtype e = rw e (own_difference u z)
 
-same_type : (u : TimeUnit) (z : Option (List ℕ)) (dtype : DataType) → dtype ≡ Datetime u z → (joined_ticks Difference (Datetime u z)).dtype ≡ dtype
-unfolding joined_ticks
+same_type : (u : TimeUnit) (z : Option (List ℕ)) (dtype : DataType) → dtype ≡ Datetime u z → (wrapped_ticks Difference (Datetime u z)).dtype ≡ dtype
+unfolding wrapped_ticks
 same_type u z dtype e = sym e
 
 pub add_then_subtract : (moments lengths : Column) (u : TimeUnit) (z : Option (List ℕ)) → AddThenSubtract moments lengths u z
 add_then_subtract moments lengths u z paired =
     let n = length moments.slots in
-    let sum = joined_ticks Sum (Datetime u z) in
-    let difference = joined_ticks Difference (Datetime u z) in
+    let sum = wrapped_ticks Sum (Datetime u z) in
+    let difference = wrapped_ticks Difference (Datetime u z) in
     let later = binary_column moments lengths n sum in
     let up : binary_of Add moments lengths ≡ Ok later =
-    equal_binary Add moments lengths sum paired.lengths (rw (paired.left_is, paired.right_is) (sum_row u z)) in
+    equal_binary Add moments lengths sum paired.lengths (rw (paired.left_is, paired.right_is) (own_sum u z)) in
     let rows : length later.slots ≡ n = binary-length moments lengths n sum in
     let down : binary_of Sub later lengths ≡ Ok (binary_column later lengths (length later.slots) difference) =
-    equal_binary Sub later lengths difference (rows ∙ paired.lengths) (back_row u z lengths.dtype paired.right_is) in
+    equal_binary Sub later lengths difference (rows ∙ paired.lengths) (own_back u z lengths.dtype paired.right_is) in
     let slots : (binary_column later lengths (length later.slots) difference).slots ≡ slots_where_valid moments lengths =
     ap (λ (k : ℕ). (binary_column later lengths k difference).slots) rows
     ∙ binary-slots later lengths n difference rows (sym paired.lengths)
-    ∙ equal_slots _ _ n (λ row h. ap (λ (s : Option Value). slots_by difference s (slot_in lengths row)) (binary-slot moments lengths n sum row refl (sym paired.lengths) h)
+    ∙ equal_slots _ _ n (λ row h. ap (λ (s : Option Value). slots_by difference.formula s (slot_in lengths row)) (binary-slot moments lengths n sum row refl (sym paired.lengths) h)
     ∙ slot-back u z (slot_in moments row) (slot_in lengths row)
     (rw paired.left_is at (slot_in-valid moments.dtype moments.slots row paired.left_valid.values))
     (rw paired.right_is at (slot_in-valid lengths.dtype lengths.slots row paired.right_valid.values))) in
@@ -178,7 +178,7 @@ subtract_then_add dates others paired =
     let slots : (binary_column others apart (length others.slots) day_after).slots ≡ slots_where_valid dates others =
     ap (λ (k : ℕ). (binary_column others apart k day_after).slots) (sym paired.lengths)
     ∙ binary-slots others apart n day_after (sym paired.lengths) rows
-    ∙ equal_slots _ _ n (λ row h. ap (λ (s : Option Value). slots_by day_after (slot_in others row) s) (binary-slot dates others n days_apart row refl (sym paired.lengths) h)
+    ∙ equal_slots _ _ n (λ row h. ap (λ (s : Option Value). slots_by day_after.formula (slot_in others row) s) (binary-slot dates others n days_apart row refl (sym paired.lengths) h)
     ∙ date-back (slot_in dates row) (slot_in others row)
     (rw paired.left_is at (slot_in-valid dates.dtype dates.slots row paired.left_valid.values))
     (rw paired.right_is at (slot_in-valid others.dtype others.slots row paired.right_valid.values))) in

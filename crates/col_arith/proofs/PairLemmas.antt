@@ -1,5 +1,5 @@
--- Two columns of one length under two rows of the operator table.
-use Rattle.std.specs.Prelude.{◌≡◌, ◌<◌, ◌+◌, ◌≤◌, ℕ, zero, suc, Bool, true, false, List, [], ◌∷◌, length, map, Option, Some, None, slice_index_or, nat_eq, Ok}
+-- Two columns of one length under two rules of the operator table.
+use Rattle.std.specs.Prelude.{◌≡◌, ◌<◌, ◌+◌, ◌≤◌, ℕ, zero, suc, Bool, true, false, List, [], ◌∷◌, length, map, Option, Some, None, slice_index_or, nat_eq, Result, Ok}
 use Rattle.std.specs.List.{list_all, range_with_len}
 use Rattle.std.proofs.Common.{refl, ap, ◌∙◌, cond, arith, zero-add}
 use Rattle.std.proofs.lemmas.Bool.{and_parts, eq-eqb, eqb-true}
@@ -9,8 +9,10 @@ use Rattle.col_types.specs.declared.operator.BinOp.{BinOp}
 use Rattle.col_model.specs.Value.{Value}
 use Rattle.col_model.specs.Broadcast.{broadcast_length, operand_row, column_slots}
 use Rattle.col_model.specs.Column.{Column, is_slot_of}
-use Rattle.col_model.specs.OperatorCalls.{binary_of, binary_by, binary_column, slots_by, slot_in, operand_slot}
+use Rattle.col_model.specs.OperatorCalls.{binary_of, binary_by, binary_column, slot_in, operand_slot}
+use Rattle.col_model.specs.Formula.{slots_by}
 use Rattle.col_model.specs.OperatorTable.{OperatorRule, operator_rule}
+use Rattle.col_types.specs.declared.error.PolarsError.{PolarsError}
 
 -- a slot of a valid column is one of its type, also past the rows
 pub slot_in-valid : (dtype : DataType) (slots : List (Option Value)) (row : ℕ) → list_all (is_slot_of dtype) slots ≡ true
@@ -44,28 +46,28 @@ equal_slots f g n h = same_slots f g 0 n (λ row low high. h row (omega arith))
 
 -- the column that two columns of one length give
 pub equal_binary : (op : BinOp) (left right : Column) (rule : OperatorRule) → length left.slots ≡ length right.slots
-    → operator_rule op left.dtype right.dtype ≡ Some rule
+    → operator_rule op left.dtype right.dtype ≡ Ok rule
     → binary_of op left right ≡ Ok (binary_column left right (length left.slots) rule)
 equal_binary op left right rule e f =
     let rows : broadcast_length (length left.slots) (length right.slots) ≡ Some (length left.slots) =
     ap (λ b. cond b (Some (length left.slots)) (cond (nat_eq (length left.slots) 1) (Some (length right.slots)) (cond (nat_eq (length right.slots) 1) (Some (length left.slots)) None))) (eq-eqb (length left.slots) (length right.slots) e) in
-    ap (λ (n : Option ℕ). binary_by op left right n (operator_rule op left.dtype right.dtype)) rows
-    ∙ ap (λ (r : Option OperatorRule). binary_by op left right (Some (length left.slots)) r) f
+    ap (λ (n : Option ℕ). binary_by left right n (operator_rule op left.dtype right.dtype)) rows
+    ∙ ap (λ (r : Result OperatorRule PolarsError). binary_by left right (Some (length left.slots)) r) f
 
--- it has as many rows, and in each the two slots under the row of the table
+-- it has as many rows, and in each the two slots under the rule
 pub binary-length : (left right : Column) (n : ℕ) (rule : OperatorRule) → length (binary_column left right n rule).slots ≡ n
-binary-length left right n rule = length-map-range_with_len (λ row. slots_by rule (operand_slot left row) (operand_slot right row)) 0 n
+binary-length left right n rule = length-map-range_with_len (λ row. slots_by rule.formula (operand_slot left row) (operand_slot right row)) 0 n
 
 pub binary-slot : (left right : Column) (n : ℕ) (rule : OperatorRule) (row : ℕ) → length left.slots ≡ n → length right.slots ≡ n → row < n
-    → slot_in (binary_column left right n rule) row ≡ slots_by rule (slot_in left row) (slot_in right row)
+    → slot_in (binary_column left right n rule) row ≡ slots_by rule.formula (slot_in left row) (slot_in right row)
 binary-slot left right n rule row e f h =
-    get_or-map-range_with_len (λ row. slots_by rule (operand_slot left row) (operand_slot right row)) 0 n row row None h (zero-add row)
-    ∙ ap (λ (s : Option Value). slots_by rule s (operand_slot right row)) (operand-slot left row (omega arith))
-    ∙ ap (λ (s : Option Value). slots_by rule (slot_in left row) s) (operand-slot right row (omega arith))
+    get_or-map-range_with_len (λ row. slots_by rule.formula (operand_slot left row) (operand_slot right row)) 0 n row row None h (zero-add row)
+    ∙ ap (λ (s : Option Value). slots_by rule.formula s (operand_slot right row)) (operand-slot left row (omega arith))
+    ∙ ap (λ (s : Option Value). slots_by rule.formula (slot_in left row) s) (operand-slot right row (omega arith))
 
 -- and so the slots are
 pub binary-slots : (left right : Column) (n : ℕ) (rule : OperatorRule) → length left.slots ≡ n → length right.slots ≡ n
-    → (binary_column left right n rule).slots ≡ column_slots (λ row. slots_by rule (slot_in left row) (slot_in right row)) n
+    → (binary_column left right n rule).slots ≡ column_slots (λ row. slots_by rule.formula (slot_in left row) (slot_in right row)) n
 binary-slots left right n rule e f =
-    equal_slots _ _ n (λ row h. ap (λ (s : Option Value). slots_by rule s (operand_slot right row)) (operand-slot left row (omega arith))
-    ∙ ap (λ (s : Option Value). slots_by rule (slot_in left row) s) (operand-slot right row (omega arith)))
+    equal_slots _ _ n (λ row h. ap (λ (s : Option Value). slots_by rule.formula s (operand_slot right row)) (operand-slot left row (omega arith))
+    ∙ ap (λ (s : Option Value). slots_by rule.formula (slot_in left row) s) (operand-slot right row (omega arith)))

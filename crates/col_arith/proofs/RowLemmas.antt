@@ -6,9 +6,9 @@ use Rattle.std.proofs.lemmas.Bool.{and_parts, and_from}
 use Rattle.std.proofs.lemmas.List.FromFn.{map-range_with_len_more}
 use Rattle.col_model.specs.Arithmetic.{Interval}
 use Rattle.col_model.specs.Broadcast.{operand_row}
-use Rattle.col_arith.specs.declared.operators.OperatorRow.{OperatorRow}
-use Rattle.col_arith.specs.OperatorRow.{is_tick_in, met_tick}
-use Rattle.col_arith.specs.Rows.{tick_for, met_row, met_ticks}
+use Rattle.col_arith.specs.declared.pair_rule.PairRule.{PairRule}
+use Rattle.col_arith.specs.PairRule.{is_tick_in, pair_tick}
+use Rattle.col_arith.specs.Pairs.{tick_for, pair_row, pair_ticks}
 
 -- what all ticks are, each is, and past the rows there is none
 pub tick_at-in : (range : Interval) (ticks : List (Option ℤ)) (row : ℕ) → list_all (is_tick_in range) ticks ≡ true
@@ -24,13 +24,13 @@ pub tick_for-in : (range : Interval) (ticks : List (Option ℤ)) (row : ℕ) (ti
 tick_for-in range ticks row tick e h = rw e (tick_at-in range ticks (operand_row (length ticks) row) h)
 
 -- one row more
-pub row-met : (row : OperatorRow) (left right : List (Option ℤ)) (n : ℕ) (met more : List (Option ℤ)) (tick l r : Option ℤ)
-    → met ≡ met_ticks row left right n → l ≡ tick_for left n → r ≡ tick_for right n → tick ≡ met_tick row l r
-    → more ≡ met ++ tick ∷ [] → more ≡ met_ticks row left right (n + 1)
-row-met row left right n met more tick l r done e f g is =
-    let here : tick ≡ met_row row left right n = g ∙ ap (λ (v : Option ℤ). met_tick row v r) e ∙ ap (λ (v : Option ℤ). met_tick row (tick_for left n) v) f in
-    is ∙ ap (λ (l : List (Option ℤ)). l ++ tick ∷ []) done ∙ ap (λ (v : Option ℤ). met_ticks row left right n ++ v ∷ []) here
-    ∙ sym (map-range_with_len_more (met_row row left right) 0 n n (zero-add n))
+pub row_more : (rule : PairRule) (left right : List (Option ℤ)) (n : ℕ) (done more : List (Option ℤ)) (tick l r : Option ℤ)
+    → done ≡ pair_ticks rule left right n → l ≡ tick_for left n → r ≡ tick_for right n → tick ≡ pair_tick rule l r
+    → more ≡ done ++ tick ∷ [] → more ≡ pair_ticks rule left right (n + 1)
+row_more rule left right n done more tick l r before e f g is =
+    let here : tick ≡ pair_row rule left right n = g ∙ ap (λ (v : Option ℤ). pair_tick rule v r) e ∙ ap (λ (v : Option ℤ). pair_tick rule (tick_for left n) v) f in
+    is ∙ ap (λ (l : List (Option ℤ)). l ++ tick ∷ []) before ∙ ap (λ (v : Option ℤ). pair_ticks rule left right n ++ v ∷ []) here
+    ∙ sym (map-range_with_len_more (pair_row rule left right) 0 n n (zero-add n))
 
 -- and where all were in the interval, all are
 pub more-in : (range : Interval) (ticks more : List (Option ℤ)) (tick : Option ℤ) → list_all (is_tick_in range) ticks ≡ true

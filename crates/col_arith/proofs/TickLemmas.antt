@@ -10,14 +10,14 @@ use Rattle.col_model.specs.declared.ticks.UnitChange.{UnitChange}
 use Rattle.col_model.specs.declared.ticks.UnitChange.TheVariants.{Finer, Same, Coarser}
 use Rattle.col_model.specs.UnitChange.{datetime_by, duration_by}
 use Rattle.col_kernel.specs.WordLaws.{read_signed, held_from_within}
-use Rattle.col_arith.specs.declared.operators.Operand.{Operand}
-use Rattle.col_arith.specs.declared.operators.Operand.TheVariants.{Moment, Length, Day}
-use Rattle.col_arith.specs.declared.operators.Meeting.{Meeting}
-use Rattle.col_arith.specs.declared.operators.Meeting.TheVariants as meetings
-use Rattle.col_arith.specs.declared.operators.OperatorRow.TheVariants.{DateWith, Ticks, Rest}
+use Rattle.col_arith.specs.declared.pair_rule.Operand.{Operand}
+use Rattle.col_arith.specs.declared.pair_rule.Operand.TheVariants.{Moment, Length, Day}
+use Rattle.col_arith.specs.declared.pair_rule.AddOrSub.{AddOrSub}
+use Rattle.col_arith.specs.declared.pair_rule.AddOrSub.TheVariants as ops
+use Rattle.col_arith.specs.declared.pair_rule.PairRule.TheVariants.{DateWith, Ticks, Rest}
 use Rattle.col_arith.specs.declared.scalars.ScalarForm.{ScalarForm}
 use Rattle.col_arith.specs.ScalarForm.{form_of}
-use Rattle.col_arith.specs.OperatorRow.{operand_of, join_of, formula_of, is_tick_in, tick_values, date_values}
+use Rattle.col_arith.specs.PairRule.{operand_of, add_or_sub, formula_of, is_tick_in, tick_values, date_values}
 use Rattle.col_model.specs.OperatorTable.{wrapping}
 use Rattle.std.proofs.lemmas.Int.{to_z-of_z}
 
@@ -87,7 +87,7 @@ pub euclid-floor : (x : ℤ) (k : ℕ) → int_div_euclid x (pos k) ≡ floor_by
 euclid-floor (pos n) k = refl
 euclid-floor (negsuc n) k = refl
 
--- ---- rows that join two ticks
+-- ---- rules for two ticks
 
 wrapped-both : (f : ℤ → ℤ → ℤ) (p q : Option ℤ)
     → option_map (wrapped_value (Signed w64)) (on_both (λ v w. Some (f v w)) p q) ≡ on_both (λ v w. Some (wrapped_value (Signed w64) (f v w))) p q
@@ -95,36 +95,36 @@ wrapped-both f None q = refl
 wrapped-both f (Some v) None = refl
 wrapped-both f (Some v) (Some w) = refl
 
-joined-both : (meeting : Meeting) (f g : Formula) (x y : ℤ)
-    → value_of (wrapping (join_of meeting) f g) x y ≡ on_both (value_of (wrapping (join_of meeting) X Y)) (value_of f x y) (value_of g x y)
-joined-both meetings.Sum f g x y = wrapped-both ◌+ℤ◌ (value_of f x y) (value_of g x y)
-joined-both meetings.Difference f g x y = wrapped-both ◌-ℤ◌ (value_of f x y) (value_of g x y)
+formula-both : (op : AddOrSub) (f g : Formula) (x y : ℤ)
+    → value_of (wrapping (add_or_sub op) f g) x y ≡ on_both (value_of (wrapping (add_or_sub op) X Y)) (value_of f x y) (value_of g x y)
+formula-both ops.Add f g x y = wrapped-both ◌+ℤ◌ (value_of f x y) (value_of g x y)
+formula-both ops.Sub f g x y = wrapped-both ◌-ℤ◌ (value_of f x y) (value_of g x y)
 
 -- the day of a date with a length of time
-pub date-joined : (meeting : Meeting) (change : UnitChange) (date length : ℤ) (moment millis slot : Option ℤ)
-    → millis ≡ value_of (duration_by change X) length length
-    → moment ≡ on_both (value_of (wrapping (join_of meeting) X Y)) (Some (date *ℤ pos 86400000)) millis
-    → slot ≡ option_and_then (fitting_value date_values) (option_map (λ v. floor_by v 86400000) moment)
-    → slot ≡ value_of (formula_of (DateWith meeting change)) date length
-date-joined meeting change date length moment millis slot e f g =
-    let days : Formula = Product X (Constant (pos 86400000)) in
-    let is : value_of (wrapping (join_of meeting) days (duration_by change Y)) date length ≡ moment =
-    joined-both meeting days (duration_by change Y) date length
-    ∙ ap (λ (o : Option ℤ). on_both (value_of (wrapping (join_of meeting) X Y)) (Some (date *ℤ pos 86400000)) o) (length-right change date length ∙ sym e)
+pub date_with-value : (op : AddOrSub) (day : ℕ) (change : UnitChange) (date length : ℤ) (moment ticks slot : Option ℤ)
+    → ticks ≡ value_of (duration_by change X) length length
+    → moment ≡ on_both (value_of (wrapping (add_or_sub op) X Y)) (Some (date *ℤ pos day)) ticks
+    → slot ≡ option_and_then (fitting_value date_values) (option_map (λ v. floor_by v day) moment)
+    → slot ≡ value_of (formula_of (DateWith op day change)) date length
+date_with-value op day change date length moment ticks slot e f g =
+    let days : Formula = Product X (Constant (pos day)) in
+    let is : value_of (wrapping (add_or_sub op) days (duration_by change Y)) date length ≡ moment =
+    formula-both op days (duration_by change Y) date length
+    ∙ ap (λ (o : Option ℤ). on_both (value_of (wrapping (add_or_sub op) X Y)) (Some (date *ℤ pos day)) o) (length-right change date length ∙ sym e)
     ∙ sym f in
-    g ∙ ap (λ (o : Option ℤ). option_and_then (fitting_value date_values) (option_map (λ v. floor_by v 86400000) o)) (sym is)
+    g ∙ ap (λ (o : Option ℤ). option_and_then (fitting_value date_values) (option_map (λ v. floor_by v day) o)) (sym is)
 
 -- ticks of two operands
-pub ticks-joined : (meeting : Meeting) (left right : Operand) (x y : ℤ) (slot p q : Option ℤ)
+pub ticks-value : (op : AddOrSub) (left right : Operand) (x y : ℤ) (slot p q : Option ℤ)
     → p ≡ value_of (operand_of left X) x x → q ≡ value_of (operand_of right X) y y
-    → slot ≡ on_both (value_of (wrapping (join_of meeting) X Y)) p q
-    → slot ≡ value_of (formula_of (Ticks meeting left right)) x y
-ticks-joined meeting left right x y slot p q e f g =
+    → slot ≡ on_both (value_of (wrapping (add_or_sub op) X Y)) p q
+    → slot ≡ value_of (formula_of (Ticks op left right)) x y
+ticks-value op left right x y slot p q e f g =
     let first : p ≡ value_of (operand_of left X) x y = e ∙ sym (operand-left left x y) in
     let second : q ≡ value_of (operand_of right Y) x y = f ∙ sym (operand-right right x y) in
-    g ∙ ap (λ (o : Option ℤ). on_both (value_of (wrapping (join_of meeting) X Y)) o q) first
-    ∙ ap (λ (o : Option ℤ). on_both (value_of (wrapping (join_of meeting) X Y)) (value_of (operand_of left X) x y) o) second
-    ∙ sym (joined-both meeting (operand_of left X) (operand_of right Y) x y)
+    g ∙ ap (λ (o : Option ℤ). on_both (value_of (wrapping (add_or_sub op) X Y)) o q) first
+    ∙ ap (λ (o : Option ℤ). on_both (value_of (wrapping (add_or_sub op) X Y)) (value_of (operand_of left X) x y) o) second
+    ∙ sym (formula-both op (operand_of left X) (operand_of right Y) x y)
 
 -- what a division of two lengths leaves
 pub rest-both : (left right : UnitChange) (x y : ℤ) (slot p q : Option ℤ)

@@ -22,10 +22,13 @@ use Rattle.col_model.specs.OperatorCalls.{binary_by}
 abbrev pub both : DataType → DataType × DataType
 both dtype = (dtype, dtype)
 
--- the types to which two types come, or none: with a length of time each keeps its own, in the coarser unit
+-- the types to which two types come, or none: with a length of time each keeps its own, in the
+-- coarser unit
 abbrev pub coerced_types : DataType → DataType → Option (DataType × DataType)
-coerced_types (Datetime u y) (Duration v) = let w = coarser_unit u v in Some (Datetime w y, Duration w)
-coerced_types (Duration u) (Datetime v z) = let w = coarser_unit u v in Some (Duration w, Datetime w z)
+coerced_types (Datetime u y) (Duration v) =
+    let w = coarser_unit u v in Some (Datetime w y, Duration w)
+coerced_types (Duration u) (Datetime v z) =
+    let w = coarser_unit u v in Some (Duration w, Datetime w z)
 coerced_types (Duration u) (Duration v) = Some (both (Duration (coarser_unit u v)))
 coerced_types Date (Duration v) = Some (Date, Duration v)
 coerced_types (Duration u) Date = Some (Duration u, Date)
@@ -45,7 +48,8 @@ pub record CanCast (from to : DataType) : Type 0 where
   pub listed : is_some (cast_rule from to NonStrict) ≡ true
 
 -- the columns in these types, or that there are none
-abbrev pub coerced_to : Column → Column → Option (DataType × DataType) → Result (Column × Column) PolarsError
+abbrev pub coerced_to : Column → Column → Option (DataType × DataType) →
+    Result (Column × Column) PolarsError
 coerced_to left right None = Err (unsupported Coerce left.dtype right.dtype)
 coerced_to left right (Some types) = Ok (cast_to left types.0, cast_to right types.1)
 

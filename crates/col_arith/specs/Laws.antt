@@ -1,4 +1,4 @@
--- Laws of operators: what one adds the other takes away.
+-- Laws of operators: what one adds the other subtracts.
 use Rattle.std.specs.Prelude.{◌≡◌, ℕ, List, length, Option, Some, None, Result, Ok, Err}
 use Rattle.col_types.specs.declared.time_unit.TimeUnit.{TimeUnit}
 use Rattle.col_types.specs.declared.data_type.DataType.{DataType, Date, Datetime, Duration}
@@ -29,24 +29,30 @@ pub record ArePaired (left right : Column) (left_type right_type : DataType) : T
   pub lengths : length left.slots ≡ length right.slots
 
 -- a call on an answer, where there is one
-abbrev pub and_then : Result Column PolarsError → (Column → Result Column PolarsError) → Result Column PolarsError
+abbrev pub and_then : Result Column PolarsError → (Column → Result Column PolarsError) →
+    Result Column PolarsError
 and_then (Ok column) call = call column
 and_then (Err refusal) call = Err refusal
 
--- the lengths of time added to the moments, and then taken away
-abbrev pub added_and_taken : Column → Column → Result Column PolarsError
-added_and_taken moments lengths = and_then (binary_of Add moments lengths) (λ later. binary_of Sub later lengths)
+-- the lengths of time added to the moments, and then subtracted
+abbrev pub added_then_subtracted : Column → Column → Result Column PolarsError
+added_then_subtracted moments lengths =
+    and_then (binary_of Add moments lengths) (λ later. binary_of Sub later lengths)
 
 -- that gives the moments, also where the sum wrapped, but for the rows without a length
 abbrev pub AddThenSubtract : Column → Column → TimeUnit → Option (List ℕ) → Type 0
-AddThenSubtract moments lengths unit zone = ArePaired moments lengths (Datetime unit zone) (Duration unit)
-    → added_and_taken moments lengths ≡ Ok (record moments { slots = slots_where_valid moments lengths; flag = Not })
+AddThenSubtract moments lengths unit zone =
+    ArePaired moments lengths (Datetime unit zone) (Duration unit)
+    → added_then_subtracted moments lengths
+    ≡ Ok (record moments { slots = slots_where_valid moments lengths; flag = Not })
 
 -- what lies between the dates added to the second ones
-abbrev pub taken_and_added : Column → Column → Result Column PolarsError
-taken_and_added dates others = and_then (binary_of Sub dates others) (λ apart. binary_of Add others apart)
+abbrev pub subtracted_then_added : Column → Column → Result Column PolarsError
+subtracted_then_added dates others =
+    and_then (binary_of Sub dates others) (λ apart. binary_of Add others apart)
 
 -- that gives the first dates under the second name, but for the rows without a second one
 abbrev pub SubtractThenAdd : Column → Column → Type 0
 SubtractThenAdd dates others = ArePaired dates others Date Date
-    → taken_and_added dates others ≡ Ok (record others { slots = slots_where_valid dates others; flag = Not })
+    → subtracted_then_added dates others
+    ≡ Ok (record others { slots = slots_where_valid dates others; flag = Not })

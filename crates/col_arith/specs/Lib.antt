@@ -1,5 +1,5 @@
-pub mod OperatorRow
-pub mod Rows
+pub mod PairRule
+pub mod Pairs
 pub mod ScalarForm
 pub mod Coercion
 pub mod Laws

@@ -1,16 +1,14 @@
 -- The scalar forms as the code keeps them.
-use Rattle.std.specs.Prelude.{◌≡◌, ℤ, List, map, Option, Some, None, Result, if◌then◌else◌}
+use Rattle.std.specs.Prelude.{◌≡◌, ℤ, List, map, Option, Some, Result}
 use Rattle.std.specs.Int.{w32, w64}
 use Rattle.std.specs.Option.{option_and_then}
 use Rattle.col_types.specs.declared.data_type.DataType.{DataType}
 use Rattle.col_types.specs.declared.error.PolarsError.{PolarsError}
-use Rattle.col_types.specs.declared.error.PolarsError.TheVariants.{Scalar}
-use Rattle.col_types.specs.declared.operator.OpName.{OpName}
-use Rattle.col_model.specs.Arithmetic.{Interval, WordType, Signed, word_values, is_within}
+use Rattle.col_model.specs.Arithmetic.{Interval, WordType, Signed, word_values}
 use Rattle.col_model.specs.Column.{Column, day_values, values_of, physical_word}
 use Rattle.col_model.specs.Formula.{Formula, Fit, value_of}
-use Rattle.col_model.specs.ScalarTable.{right_form, left_form, bounded}
-use Rattle.col_model.specs.OperatorCalls.{unsupported, name_of_op, name_of_scalar_op, scalar_right_of, scalar_left_of}
+use Rattle.col_model.specs.ScalarTable.{right_form, left_form, bounded, scalar_dtype}
+use Rattle.col_model.specs.OperatorCalls.{scalar_right_of, scalar_left_of}
 use Rattle.col_arith.specs.declared.scalars.ScalarForm.{ScalarForm}
 use Rattle.col_arith.specs.declared.scalars.ScalarForm.TheVariants.{Right, Left}
 use Rattle.col_arith.specs.declared.scalars.Ticks.{Ticks}
@@ -21,25 +19,10 @@ abbrev pub form_of : ScalarForm → ℤ → WordType → Formula
 form_of (Right op) k word = right_form op k word
 form_of (Left op) k word = left_form k op word
 
--- how refusals name a form
-abbrev pub name_of_form : ScalarForm → OpName
-name_of_form (Right op) = name_of_scalar_op op
-name_of_form (Left op) = name_of_op op
-
 -- what a column gives under a form with an integer
 abbrev pub scalar_of : Column → ScalarForm → ℤ → Result Column PolarsError
 scalar_of column (Right op) k = scalar_right_of column op k
 scalar_of column (Left op) k = scalar_left_of k op column
-
--- why a word or none doesn't take an integer: the missing word comes first
-abbrev pub word_refusal : PolarsError → Option WordType → ℤ → Option PolarsError
-word_refusal unlisted None k = Some unlisted
-word_refusal unlisted (Some word) k = if is_within (word_values word) k then None else Some (Scalar k)
-
--- why a column of the type meets no integer: the type comes before the integer
-abbrev pub scalar_refusal : ScalarForm → DataType → ℤ → Option PolarsError
-scalar_refusal form dtype k =
-    word_refusal (unsupported (name_of_form form) dtype dtype) (physical_word dtype) k
 
 -- ---- ticks
 
@@ -63,13 +46,16 @@ values_in Wide = word_values (Signed w64)
 
 -- a tick under a form with an integer
 abbrev pub scalar_tick : Ticks → ScalarForm → ℤ → ℤ → Option ℤ
-scalar_tick ticks form k tick = value_of (bounded_by ticks (form_of form k (word_of ticks))) tick tick
+scalar_tick ticks form k tick =
+    value_of (bounded_by ticks (form_of form k (word_of ticks))) tick tick
 
 -- each tick under a form with an integer
 abbrev pub scalar_ticks : Ticks → ScalarForm → ℤ → List (Option ℤ) → List (Option ℤ)
 scalar_ticks ticks form k slots = map (option_and_then (scalar_tick ticks form k)) slots
 
--- what ticks have to do with a type
+-- what ticks have to do with a type, which is also that of the answer
 pub record FitsType (dtype : DataType) (ticks : Ticks) : Type 0 where
+  pub word : physical_word dtype ≡ Some (word_of ticks)
   pub values : values_of dtype ≡ Some (values_in ticks)
   pub bound : (formula : Formula) → bounded dtype formula ≡ bounded_by ticks formula
+  pub answer : scalar_dtype dtype ≡ Some dtype

@@ -1,13 +1,13 @@
 // Common types of two columns.
-ghost use Rattle.std.specs.Prelude.{◌≡◌, true, false, Ok, IfSome};
+ghost use Rattle.std.specs.Prelude.{◌≡◌, true, Ok, IfOk};
 ghost use Rattle.col_types.specs.PolarsError.{GivesBy, seen_by};
 ghost use Rattle.col_model.specs.Chunked.{column_of};
 ghost use Rattle.col_model.specs.Column.{is_built_type};
 ghost use Rattle.col_arith.specs.Coercion.{coerced_types, coerced_of, cast_to, changes_type};
-ghost use Rattle.col_arith.specs.Coercion.{uncoerced_rule, CanCast};
-ghost use Rattle.col_arith.specs.OperatorRow.{rule_of, FitsTypes};
+ghost use Rattle.col_arith.specs.Coercion.{columns_of_both, uncoerced_rule, CanCast};
+ghost use Rattle.col_arith.specs.PairRule.{operator_rule_of, FitsTypes};
 
-use crate::operators::{Rule, rule_for};
+use crate::pair_rule::{TypedRule, operator_rule, unsupported};
 use col_series::Series;
 use col_types::{
     BinOp, CastOptions, DataType, OpName, PolarsError, PolarsResult, flat_supertype, get_time_units,
@@ -48,8 +48,8 @@ fn coerced_types(left: &DataType, right: &DataType) -> Option<(DataType, DataTyp
 
 /// The column in a type to which a cast leads. The one refusal is `NoMemory`.
 fn cast_to(alloc: Global, column: &Series, target: &DataType) -> PolarsResult<Series>
-    requires can { CanCast column.now.dtype target.now }
-    ensures column { Gives result (Ok (cast_to column.now target.now)) }
+    requires can { CanCast column.now.column.dtype target.now }
+    ensures column { GivesBy column_of result (Ok (cast_to column.now.column target.now)) }
 {
     column.cast_with_options(alloc, target, CastOptions::NonStrict)
 }
@@ -62,9 +62,10 @@ fn cast_both(
     rhs: &Series,
     right: &DataType,
 ) -> PolarsResult<(Series, Series)>
-    requires left { CanCast lhs.now.dtype left.now }
-    requires right { CanCast rhs.now.dtype right.now }
-    ensures columns { Gives result (Ok (cast_to lhs.now left.now, cast_to rhs.now right.now)) }
+    requires left { CanCast lhs.now.column.dtype left.now }
+    requires right { CanCast rhs.now.column.dtype right.now }
+    ensures columns { GivesBy columns_of_both result
+        (Ok (cast_to lhs.now.column left.now, cast_to rhs.now.column right.now)) }
 {
     match (cast_to(alloc, lhs, left), cast_to(alloc, rhs, right)) {
         (Ok(left), Ok(right)) => Ok((left, right)),
@@ -114,16 +115,20 @@ fn changes_type(left: &DataType, right: &DataType) -> bool
     }
 }
 
-/// The row for an operator and two types that coercion leaves as they are, or none.
-pub(crate) fn uncoerced_rule(op: BinOp, left: &DataType, right: &DataType) -> Option<Rule>
+/// The rule for an operator and two types that coercion leaves as they are, or the refusal.
+pub(crate) fn uncoerced_rule(
+    op: BinOp,
+    left: &DataType,
+    right: &DataType,
+) -> PolarsResult<TypedRule>
     requires left { is_built_type left.now ≡ true }
     requires right { is_built_type right.now ≡ true }
-    ensures rule { rule_of result ≡ uncoerced_rule op left.now right.now }
-    ensures fits { IfSome result (FitsTypes left.now right.now) }
+    ensures rule { seen_by operator_rule_of result ≡ uncoerced_rule op left.now right.now }
+    ensures fits { IfOk result (FitsTypes left.now right.now) }
 {
     if changes_type(left, right) {
-        None
+        Err(unsupported(op, left, right))
     } else {
-        rule_for(op, left, right)
+        operator_rule(op, left, right)
     }
 }

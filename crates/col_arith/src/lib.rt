@@ -5,8 +5,8 @@ mod arith;
 mod coercion;
 mod columns;
 mod laws;
-mod operators;
-mod rows;
+mod pair_rule;
+mod pairs;
 mod scalar;
 mod scalars;
 #[cfg(test)]

@@ -1,18 +1,17 @@
 // Ticks under the scalar forms.
-ghost use Rattle.std.specs.Prelude.{◌≡◌, true, Some, IfOk, IfSome};
+ghost use Rattle.std.specs.Prelude.{◌≡◌, true, IfOk};
 ghost use Rattle.std.specs.List.{list_all};
 ghost use Rattle.std.specs.Int.{w32, w64};
 ghost use Rattle.std.specs.Option.{option_and_then, option_map};
 ghost use Rattle.col_model.specs.Arithmetic.{Signed, fitting_value, is_within, word_values};
-ghost use Rattle.col_model.specs.Column.{day_values, physical_word, values_of};
+ghost use Rattle.col_model.specs.Column.{day_values, is_built_type};
 ghost use Rattle.col_model.specs.Formula.{value_of};
-ghost use Rattle.col_model.specs.OperatorCalls.{name_of_op};
-ghost use Rattle.col_arith.specs.OperatorRow.{is_tick_in, date_values, tick_values};
+ghost use Rattle.col_arith.specs.PairRule.{is_tick_in, date_values, tick_values};
 ghost use Rattle.col_arith.specs.ScalarForm.{form_of, word_of, values_in, scalar_tick};
-ghost use Rattle.col_arith.specs.ScalarForm.{scalar_ticks, FitsType, name_of_form};
+ghost use Rattle.col_arith.specs.ScalarForm.{scalar_ticks, FitsType};
 
 use col_kernel::Word;
-use col_types::{BinOp, DataType, OpName, ScalarOp};
+use col_types::{BinOp, DataType, NANOS_PER_DAY, ScalarOp};
 use std::alloc::{AllocError, Global};
 
 /// How a column's value and an integer meet, and on which side the integer stands.
@@ -33,46 +32,16 @@ pub(crate) enum Ticks {
     Wide,
 }
 
-/// The ticks of columns of the type, none where there are no such columns.
-pub(crate) fn ticks_of(dtype: &DataType) -> Option<Ticks>
-    ensures word { option_map word_of result ≡ physical_word dtype.now }
-    ensures fits { IfSome result (FitsType dtype.now) }
+/// The ticks of columns of the type.
+pub(crate) fn ticks_of(dtype: &DataType) -> Ticks
+    requires built_type { is_built_type dtype.now ≡ true }
+    ensures fits { FitsType dtype.now result }
 {
     match dtype {
-        DataType::Date => Some(Ticks::Days),
-        DataType::Time => Some(Ticks::Times),
-        DataType::Datetime(_, _) | DataType::Duration(_) => Some(Ticks::Wide),
-        _ => None,
-    }
-}
-
-/// How refusals name the form.
-pub(crate) fn name_of_form(form: ScalarForm) -> OpName
-    ensures name { result ≡ name_of_form form }
-{
-    match form {
-        ScalarForm::Right(op) => match op {
-            ScalarOp::Add => OpName::Add,
-            ScalarOp::Sub => OpName::Sub,
-            ScalarOp::Mul => OpName::Mul,
-            ScalarOp::Div => OpName::Div,
-            ScalarOp::Rem => OpName::Rem,
-            ScalarOp::TruncDiv => OpName::TruncDiv,
-        },
-        ScalarForm::Left(op) => name_of_op(op),
-    }
-}
-
-/// How refusals name the operator.
-pub(crate) fn name_of_op(op: BinOp) -> OpName
-    ensures name { result ≡ name_of_op op }
-{
-    match op {
-        BinOp::Add => OpName::Add,
-        BinOp::Sub => OpName::Sub,
-        BinOp::Mul => OpName::Mul,
-        BinOp::Div => OpName::Div,
-        BinOp::Rem => OpName::Rem,
+        DataType::Date => Ticks::Days,
+        DataType::Time => Ticks::Times,
+        DataType::Datetime(_, _) | DataType::Duration(_) => Ticks::Wide,
+        _ => unreachable!(),
     }
 }
 
@@ -99,7 +68,7 @@ pub(crate) fn scalar_in(ticks: Ticks, k: i128) -> Option<i64>
 }
 
 /// A value and an integer of one word under the form.
-fn joined<W: Word>(form: ScalarForm, value: W, k: W) -> Option<W>
+fn form_value<W: Word>(form: ScalarForm, value: W, k: W) -> Option<W>
     ensures value { option_map W.reading result ≡
         value_of (form_of form (W.reading k) W.word_type) (W.reading value) (W.reading value) }
 {
@@ -142,21 +111,21 @@ fn widened(days: Option<i32>) -> Option<i64>
 }
 
 /// A number of days and an integer under the form.
-fn days_joined(form: ScalarForm, days: i64, k: i64) -> Option<i64>
+fn day_value(form: ScalarForm, days: i64, k: i64) -> Option<i64>
     requires days { is_within date_values days ≡ true }
     requires scalar { is_within date_values k ≡ true }
     ensures value { result ≡ value_of (form_of form k (Signed w32)) days days }
     ensures fits { is_tick_in date_values result ≡ true }
 {
-    widened(joined(form, narrowed(days), narrowed(k)))
+    widened(form_value(form, narrowed(days), narrowed(k)))
 }
 
 /// A tick of 64 bits and an integer under the form.
-fn wide_joined(form: ScalarForm, tick: i64, k: i64) -> Option<i64>
+fn wide_value(form: ScalarForm, tick: i64, k: i64) -> Option<i64>
     ensures value { result ≡ value_of (form_of form k (Signed w64)) tick tick }
     ensures fits { is_tick_in tick_values result ≡ true }
 {
-    joined(form, tick, k)
+    form_value(form, tick, k)
 }
 
 /// A time, none outside the day.
@@ -166,7 +135,7 @@ fn time_in_day(tick: Option<i64>) -> Option<i64>
 {
     match tick {
         Some(tick) => {
-            if 0 <= tick && tick < 86_400_000_000_000 {
+            if 0 <= tick && tick < NANOS_PER_DAY {
                 Some(tick)
             } else {
                 None
@@ -184,9 +153,9 @@ fn scalar_tick(ticks: Ticks, form: ScalarForm, tick: i64, k: i64) -> Option<i64>
     ensures fits { is_tick_in (values_in ticks) result ≡ true }
 {
     match ticks {
-        Ticks::Days => days_joined(form, tick, k),
-        Ticks::Times => time_in_day(wide_joined(form, tick, k)),
-        Ticks::Wide => wide_joined(form, tick, k),
+        Ticks::Days => day_value(form, tick, k),
+        Ticks::Times => time_in_day(wide_value(form, tick, k)),
+        Ticks::Wide => wide_value(form, tick, k),
     }
 }
 
@@ -213,13 +182,13 @@ pub(crate) fn scalar_ticks(
 ) -> Result<Vec<Option<i64>>, AllocError>
     requires slots { list_all (is_tick_in (values_in ticks)) slots.now ≡ true }
     requires scalar { is_within (word_values (word_of ticks)) k ≡ true }
-    ensures ticks { IfOk result (λ joined. joined.items ≡ scalar_ticks ticks form k slots.now) }
+    ensures ticks { IfOk result (λ given. given.items ≡ scalar_ticks ticks form k slots.now) }
     ensures fit { IfOk result
-        (λ joined. list_all (is_tick_in (values_in ticks)) joined.items ≡ true) }
+        (λ given. list_all (is_tick_in (values_in ticks)) given.items ≡ true) }
 {
-    let mut joined = Vec::with_capacity(alloc, slots.len())?;
+    let mut given = Vec::with_capacity(alloc, slots.len())?;
     for slot in slots {
-        joined.push(scalar_slot(ticks, form, *slot, k))?;
+        given.push(scalar_slot(ticks, form, *slot, k))?;
     }
-    Ok(joined)
+    Ok(given)
 }

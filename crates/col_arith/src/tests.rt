@@ -135,24 +135,27 @@ fn rests_have_the_sign_of_the_divisor(rt: HostRuntime) -> Result<(), Fail> {
 #[test]
 fn columns_of_one_type_meet(rt: HostRuntime) -> Result<(), Fail> {
     let alloc = rt.alloc();
-    let seven = column(alloc, &DataType::Duration(MILLIS), &[Some(7)])?;
-    let three = column(alloc, &DataType::Duration(MILLIS), &[Some(3)])?;
-    assert_eq!(rt; first(seven.add_to(alloc, &three)), Ok(Some(10)));
-    assert_eq!(rt; first(seven.subtract(alloc, &three)), Ok(Some(4)));
-    assert_eq!(rt; first(seven.remainder(alloc, &three)), Ok(Some(1)));
-    let kind = Kind::Duration(MILLIS);
-    let refused = PolarsError::Types {
-        op: OpName::Mul,
-        left: kind,
-        right: kind,
-    };
-    assert_eq!(rt; first(seven.multiply(alloc, &three)), Err(refused));
-    let refused = PolarsError::Types {
-        op: OpName::Div,
-        left: kind,
-        right: kind,
-    };
-    assert_eq!(rt; first(seven.divide(alloc, &three)), Err(refused));
+    let millis = DataType::Duration(MILLIS);
+    let (seven, three) = (column(alloc, &millis, &[Some(7)])?, column(alloc, &millis, &[Some(3)])?);
+    for (answer, wanted) in [
+        (first(seven.add_to(alloc, &three)), 10),
+        (first(seven.subtract(alloc, &three)), 4),
+        (first(seven.remainder(alloc, &three)), 1),
+        (first(seven.try_clone(alloc)?.try_add_owned(alloc, three.try_clone(alloc)?)), 10),
+        (first(seven.try_clone(alloc)?.try_sub_owned(alloc, three.try_clone(alloc)?)), 4),
+    ] {
+        assert_eq!(rt; answer, Ok(Some(wanted)));
+    }
+    let (left, right) = (Kind::Duration(MILLIS), Kind::Duration(MILLIS));
+    for (answer, op) in [
+        (first(seven.multiply(alloc, &three)), OpName::Mul),
+        (first(seven.divide(alloc, &three)), OpName::Div),
+        (first(seven.try_mul(alloc, &three)), OpName::Mul),
+        (first(seven.try_div(alloc, &three)), OpName::Div),
+        (first(seven.try_mul_owned(alloc, three)), OpName::Mul),
+    ] {
+        assert_eq!(rt; answer, Err(PolarsError::Types { op, left, right }));
+    }
     Ok(())
 }
 
@@ -166,11 +169,36 @@ fn columns_of_two_units_are_coerced(rt: HostRuntime) -> Result<(), Fail> {
         left: Kind::Duration(MILLIS),
         right: Kind::Duration(MICROS),
     };
-    assert_eq!(rt; first(seven.add_to(alloc, &three)), Err(refused));
+    assert_eq!(rt;
+        first(uncoerced_binary(alloc, BinOp::Add, &seven, &three)),
+        Err(refused)
+    );
     let (left, right) = coerce_lhs_rhs(alloc, &seven, &three)?;
+    let sum = first(uncoerced_binary(alloc, BinOp::Add, &left, &right));
+    assert_eq!(rt; sum, Ok(Some(10)));
+    let (right, left) = coerce_lhs_rhs_owned(alloc, three, seven)?;
     assert!(rt; right.dtype().is_same(&DataType::Duration(MILLIS)));
-    assert_eq!(rt; first(Ok(left)), Ok(Some(7)));
-    assert_eq!(rt; first(Ok(right)), Ok(Some(3)));
+    assert_eq!(rt; first(left.subtract(alloc, &right)), Ok(Some(4)));
+    Ok(())
+}
+
+#[test]
+fn integers_meet_columns(rt: HostRuntime) -> Result<(), Fail> {
+    let alloc = rt.alloc();
+    let seven = column(alloc, &DataType::Duration(MILLIS), &[Some(7)])?;
+    for (answer, wanted) in [
+        (first(seven.add_scalar(alloc, -3)), 4),
+        (first(seven.sub_scalar(alloc, 3)), 4),
+        (first(seven.mul_scalar(alloc, -3)), -21),
+        (first(seven.rem_scalar(alloc, -3)), -2),
+        (first(seven.lhs_add(alloc, 3)), 10),
+        (first(seven.lhs_sub(alloc, 3)), -4),
+        (first(seven.lhs_mul(alloc, 3)), 21),
+        (first(seven.lhs_div(alloc, -15)), -3),
+        (first(seven.lhs_rem(alloc, -15)), 6),
+    ] {
+        assert_eq!(rt; answer, Ok(Some(wanted)));
+    }
     Ok(())
 }
 

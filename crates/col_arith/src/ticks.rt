@@ -1,29 +1,28 @@
-// Two ticks under a row of the operator table.
+// Two ticks under a rule of the operator table.
 ghost use Rattle.std.specs.Prelude.{◌≡◌, ◌<◌, ◌≤◌, ◌^◌, ◌+ℤ◌, ◌*ℤ◌, pos, true, Some, unsigned_abs};
 ghost use Rattle.std.specs.Option.{option_and_then, option_map};
-ghost use Rattle.col_types.specs.TimeUnit.{ticks_per_day};
-ghost use Rattle.col_types.specs.declared.time_unit.TimeUnit.TheVariants.{Milliseconds};
 ghost use Rattle.col_model.specs.Arithmetic.{fitting_value, floor_by, floor_mod, is_within};
 ghost use Rattle.col_model.specs.Formula.{X, Y, value_of, divided, on_both};
 ghost use Rattle.col_model.specs.UnitChange as units;
 ghost use Rattle.col_model.specs.OperatorTable.{wrapping};
-ghost use Rattle.col_arith.specs.OperatorRow.{formula_of, join_of, operand_of};
-ghost use Rattle.col_arith.specs.OperatorRow.{IsProper, IsProperOperand, is_tick_in};
-ghost use Rattle.col_arith.specs.OperatorRow.{left_values, right_values, answer_values};
-ghost use Rattle.col_arith.specs.OperatorRow.{date_values, tick_values};
+ghost use Rattle.col_arith.specs.PairRule.{formula_of, add_or_sub, operand_of};
+ghost use Rattle.col_arith.specs.PairRule.{IsProper, IsProperOperand, IsDay, IsShortDay};
+ghost use Rattle.col_arith.specs.PairRule.{is_tick_in, date_values, tick_values};
+ghost use Rattle.col_arith.specs.PairRule.{left_values, right_values, answer_values};
 
-use crate::operators::{Meeting, Operand, OperatorRow};
+use crate::pair_rule::{AddOrSub, Operand, PairRule};
 use col_kernel::Word;
 use col_model::{UnitChange, datetime_by, duration_by, fitting_day};
+use col_types::MILLIS_PER_DAY;
 
 /// The sum or the difference, wrapped to 64 bits.
-fn joined(meeting: Meeting, left: i64, right: i64) -> i64
-    ensures value { Some result ≡ value_of (wrapping (join_of meeting) X Y) left right }
+fn wrapping_op(op: AddOrSub, left: i64, right: i64) -> i64
+    ensures value { Some result ≡ value_of (wrapping (add_or_sub op) X Y) left right }
     ensures fits { is_within tick_values result ≡ true }
 {
-    match meeting {
-        Meeting::Sum => left.wrapping_add(right),
-        Meeting::Difference => left.wrapping_sub(right),
+    match op {
+        AddOrSub::Add => left.wrapping_add(right),
+        AddOrSub::Sub => left.wrapping_sub(right),
     }
 }
 
@@ -56,18 +55,18 @@ fn operand_tick(operand: Operand, tick: i64) -> Option<i64>
 }
 
 /// The sum or the difference of two optional ticks, wrapped to 64 bits.
-fn both_joined(meeting: Meeting, left: Option<i64>, right: Option<i64>) -> Option<i64>
-    ensures value { result ≡ on_both (value_of (wrapping (join_of meeting) X Y)) left right }
+fn wrapping_slots(op: AddOrSub, left: Option<i64>, right: Option<i64>) -> Option<i64>
+    ensures value { result ≡ on_both (value_of (wrapping (add_or_sub op) X Y)) left right }
     ensures fits { is_tick_in tick_values result ≡ true }
 {
     match (left, right) {
-        (Some(left), Some(right)) => Some(joined(meeting, left, right)),
+        (Some(left), Some(right)) => Some(wrapping_op(op, left, right)),
         _ => None,
     }
 }
 
 /// What a division of two optional ticks leaves.
-fn rest_of_both(tick: Option<i64>, divisor: Option<i64>) -> Option<i64>
+fn rest_of_slots(tick: Option<i64>, divisor: Option<i64>) -> Option<i64>
     ensures value { result ≡ on_both (divided floor_mod) tick divisor }
     ensures fits { is_tick_in tick_values result ≡ true }
 {
@@ -77,12 +76,13 @@ fn rest_of_both(tick: Option<i64>, divisor: Option<i64>) -> Option<i64>
     }
 }
 
-/// The milliseconds at which a date begins.
-fn midnight(date: i64) -> i64
+/// The tick at which a date begins.
+fn midnight(date: i64, day: u64) -> i64
+    requires day { IsShortDay day }
     requires date { is_within date_values date ≡ true }
-    ensures value { result ≡ date *ℤ pos (ticks_per_day Milliseconds) }
+    ensures value { result ≡ date *ℤ pos day }
 {
-    date * 86_400_000
+    date * day as i64
 }
 
 /// The whole days of so many ticks, rounded down.
@@ -95,26 +95,29 @@ fn whole_days(ticks: i64, day: u64) -> i64
     ticks.div_euclid(day as i64)
 }
 
-/// The date of an optional moment in milliseconds.
-fn date_of(moment: Option<i64>) -> Option<i64>
+/// The date of an optional moment.
+fn date_of(moment: Option<i64>, day: u64) -> Option<i64>
+    requires day { IsShortDay day }
     ensures value { result ≡ option_and_then (fitting_value date_values)
-        (option_map (λ v. floor_by v (ticks_per_day Milliseconds)) moment) }
+        (option_map (λ v. floor_by v day) moment) }
     ensures fits { is_tick_in date_values result ≡ true }
 {
     match moment {
-        Some(moment) => as_date(whole_days(moment, 86_400_000)),
+        Some(moment) => as_date(whole_days(moment, day)),
         None => None,
     }
 }
 
-/// The date of a date joined with a length of time, which is first cut to milliseconds.
-fn date_with(meeting: Meeting, change: UnitChange, date: i64, length: i64) -> Option<i64>
-    requires proper { units.IsProper change }
+/// The date of a date joined with a length of time, both told in a unit of which a day has so many
+/// ticks.
+fn date_with(op: AddOrSub, day: u64, change: UnitChange, date: i64, length: i64) -> Option<i64>
+    requires proper { IsProper (PairRule.DateWith op day change) }
     requires date { is_within date_values date ≡ true }
-    ensures value { result ≡ value_of (formula_of (OperatorRow.DateWith meeting change)) date length }
+    ensures value { result ≡ value_of (formula_of (PairRule.DateWith op day change)) date length }
     ensures fits { is_tick_in date_values result ≡ true }
 {
-    date_of(both_joined(meeting, Some(midnight(date)), duration_by(length, change)))
+    let moment = wrapping_slots(op, Some(midnight(date, day)), duration_by(length, change));
+    date_of(moment, day)
 }
 
 /// The number of the day so many days after a date.
@@ -128,34 +131,34 @@ fn days_after(days: i64, date: i64) -> i64
 
 /// The day that lies so many whole days of a length of time, rounded down, after a date.
 fn length_then_date(day: u64, length: i64, date: i64) -> Option<i64>
-    requires proper { IsProper (OperatorRow.LengthThenDate day) }
+    requires proper { IsProper (PairRule.LengthThenDate day) }
     requires date { is_within date_values date ≡ true }
-    ensures value { result ≡ value_of (formula_of (OperatorRow.LengthThenDate day)) length date }
+    ensures value { result ≡ value_of (formula_of (PairRule.LengthThenDate day)) length date }
     ensures fits { is_tick_in date_values result ≡ true }
 {
     as_date(days_after(whole_days(length, day), date))
 }
 
-/// Two ticks under the row.
-pub(crate) fn met_tick(row: OperatorRow, left: i64, right: i64) -> Option<i64>
-    requires proper { IsProper row }
-    requires left { is_within (left_values row) left ≡ true }
-    requires right { is_within (right_values row) right ≡ true }
-    ensures value { result ≡ value_of (formula_of row) left right }
-    ensures fits { is_tick_in (answer_values row) result ≡ true }
+/// Two ticks under the rule.
+pub(crate) fn pair_tick(rule: PairRule, left: i64, right: i64) -> Option<i64>
+    requires proper { IsProper rule }
+    requires left { is_within (left_values rule) left ≡ true }
+    requires right { is_within (right_values rule) right ≡ true }
+    ensures value { result ≡ value_of (formula_of rule) left right }
+    ensures fits { is_tick_in (answer_values rule) result ≡ true }
 {
-    match row {
-        OperatorRow::DatesApart => Some((left - right) * 86_400_000),
-        OperatorRow::TimesApart => Some(left - right),
-        OperatorRow::DateWith(meeting, change) => date_with(meeting, change, left, right),
-        OperatorRow::LengthThenDate(day) => length_then_date(day, left, right),
-        OperatorRow::Ticks(meeting, left_operand, right_operand) => both_joined(
-            meeting,
+    match rule {
+        PairRule::DatesApart => Some((left - right) * MILLIS_PER_DAY),
+        PairRule::TimesApart => Some(left - right),
+        PairRule::DateWith(op, day, change) => date_with(op, day, change, left, right),
+        PairRule::LengthThenDate(day) => length_then_date(day, left, right),
+        PairRule::Ticks(op, left_operand, right_operand) => wrapping_slots(
+            op,
             operand_tick(left_operand, left),
             operand_tick(right_operand, right),
         ),
-        OperatorRow::Rest(left_change, right_change) => {
-            rest_of_both(
+        PairRule::Rest(left_change, right_change) => {
+            rest_of_slots(
                 duration_by(left, left_change),
                 duration_by(right, right_change),
             )

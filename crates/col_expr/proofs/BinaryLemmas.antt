@@ -22,7 +22,7 @@ use Rattle.col_expr.specs.Found.{IsColumnOf, IsFine, IsFound, numbered}
 use Rattle.col_expr.proofs.Slots.{length-column_slots, column_slots-same, operand_row-left, operand_row-right}
 use Rattle.col_expr.proofs.NodeLemmas.{IsDueBy, found_due, row_count-is, slot_in-is, steps_above, Unless-map}
 
--- the row of the table, and the number of rows, from the two columns
+-- the rule of the table, and the number of rows, from the two columns
 rule_is : (inputs : List Column) (op : BinOp) (l r : Tree) (c d : Column) →
     IsColumnOf inputs l c → IsColumnOf inputs r d →
     operator_rule_for op (dtype_of inputs l) (dtype_of inputs r)
@@ -47,7 +47,7 @@ operand_slot-is inputs t c row is h =
     slot_in-is inputs t c (operand_row (length c.slots) row) is h
     ∙ ap (λ rows. slot_at inputs t (operand_row rows row)) (sym (row_count-is inputs t c is))
 
--- the column of two columns that are joined by a row of the table
+-- the column of two columns that are joined by a rule of the table
 column_of_binary : (inputs : List Column) (op : BinOp) (l r : Tree) (c d : Column) (rows : ℕ)
     (rule : OperatorRule) → IsColumnOf inputs l c → IsColumnOf inputs r d →
     broadcast_length (length c.slots) (length d.slots) ≡ Some rows →
@@ -56,11 +56,11 @@ column_of_binary : (inputs : List Column) (op : BinOp) (l r : Tree) (c d : Colum
 column_of_binary inputs op l r c d rows rule left right fit ruled =
     let t = Binary op l r in
     let long : length (binary_column c d rows rule).slots ≡ rows = length-column_slots _ rows in
-    let row_is : operator_rule_for op (dtype_of inputs l) (dtype_of inputs r) ≡ Some rule =
+    let ruled_is : operator_rule_for op (dtype_of inputs l) (dtype_of inputs r) ≡ Some rule =
     rule_is inputs op l r c d left right ∙ ap result_ok ruled in
     record {
       named = left.named;
-      typed = ap rule_dtype row_is;
+      typed = ap rule_dtype ruled_is;
       long = rows_are inputs l r c d left right ∙ fit ∙ ap Some (sym long);
       filled = column_slots-same _ (slot_at inputs t) rows (λ row h.
           ap (λ slot. slots_by rule.formula slot (operand_slot d row))
@@ -68,7 +68,7 @@ column_of_binary inputs op l r c d rows rule left right fit ruled =
           ∙ ap (slots_by rule.formula (slot_at inputs l (operand_row (row_count inputs l) row)))
           (operand_slot-is inputs r d row right (operand_row-right _ _ rows row fit h))
           ∙ ap (λ rules. rule_slots rules (slot_at inputs l (operand_row (row_count inputs l) row))
-          (slot_at inputs r (operand_row (row_count inputs r) row))) (sym row_is))
+          (slot_at inputs r (operand_row (row_count inputs r) row))) (sym ruled_is))
           ∙ ap (column_slots (slot_at inputs t)) (sym long);
       flagged = refl;
     }
@@ -143,13 +143,13 @@ numbers_of_both first second node op l r at next =
     ∙ ap (λ n. Join n (numbers_from first l) (numbers_from second r)) (sym next)
 
 -- two operands that are found, where the nodes are numbered from `first` on
-pub binary_found : (inputs : List Column) (first second node : ℕ) (op : BinOp) (l r : Tree)
+pub found_binary_from : (inputs : List Column) (first second node : ℕ) (op : BinOp) (l r : Tree)
     (c d : Column) (answer : Result Chunked EvalError) → second ≡ first + node_count l →
     node ≡ second + node_count r → IsFine inputs (numbers_from first l) l c →
     IsFine inputs (numbers_from second r) r d →
     GivesBy column_of answer (numbered node (binary_of op c d)) →
     IsFound inputs (numbers_from first (Binary op l r)) (Binary op l r) answer
-binary_found inputs first second node op l r c d answer at next left right gives =
+found_binary_from inputs first second node op l r c d answer at next left right gives =
     let P : Numbers → Type 0 = λ numbers. IsFound inputs numbers (Binary op l r) answer in
     subst P (sym (numbers_of_both first second node op l r at next))
     (found_binary inputs (Join node (numbers_from first l) (numbers_from second r)) op l r c d

@@ -37,7 +37,7 @@ defined_input : (inputs : List Column) (numbers : Numbers) (index : ℕ) (there 
     refusal_at inputs (number_at numbers) (Input index) ≡ None → IsDefined inputs (Input index)
 defined_input inputs numbers index None at h =
     let past : refusal_at inputs (number_at numbers) (Input index)
-      ≡ Some (refusals.NoColumn (number_at numbers) index (length inputs)) =
+    ≡ Some (refusals.NoColumn (number_at numbers) index (length inputs)) =
     no_input inputs (number_at numbers) index at in cc
 defined_input inputs numbers index (Some c) at h =
     record {
@@ -54,7 +54,7 @@ cast_typed node None target options slots holds at typed h = cc
 cast_typed node (Some from) target options slots true at typed h = rw at refl
 cast_typed node (Some from) target options slots false at typed h =
     let bad : cast_refusal_at node (Some from) target options slots
-      ≡ Some (refusals.BadType node) = rw at refl in cc
+    ≡ Some (refusals.BadType node) = rw at refl in cc
 
 rule_typed : (node : ℕ) (rule : Option OperatorRule) → unsupported_at node rule ≡ None →
     is_some (rule_dtype rule) ≡ true
@@ -230,9 +230,10 @@ least_of_both inputs first op l r error None None at_left at_right least_left le
     at_top inputs first (first + node_count l + node_count r) (Binary op l r)
     (subtrees l ++ subtrees r) error
     (omega (arith, length-append (subtrees l) (subtrees r), length-subtrees l, length-subtrees r))
-    (sym (append_assoc (subtrees l) (subtrees r) (Binary op l r ∷ []))) none h
-    (defined inputs (numbers_from first l) l at_left,
-    defined inputs (numbers_from (first + node_count l) r) r at_right)
+    (sym (append_assoc (subtrees l) (subtrees r) (Binary op l r ∷ []))) none h (
+      defined inputs (numbers_from first l) l at_left,
+      defined inputs (numbers_from (first + node_count l) r) r at_right,
+    )
 
 -- the first refusal is that of the least refused node
 pub least_refused : (inputs : List Column) (first : ℕ) (t : Tree) (error : EvalError) →

@@ -119,7 +119,7 @@ due_cast inputs refused node t column true false first (Some e) same is = same
 
 -- ---- scalars and units
 
--- the column of a row of a table for one operand
+-- the column of a rule of a table for one operand
 column_of_ruled : (inputs : List Column) (t e : Tree) (c : Column) (rule : OperatorRule) →
     IsColumnOf inputs e c → name_of inputs t ≡ name_of inputs e →
     dtype_of inputs t ≡ Some rule.dtype → rows_of inputs t ≡ rows_of inputs e →
@@ -140,7 +140,7 @@ column_of_ruled inputs t e c rule is name dtype rows slot flag =
       flagged = sym flag;
     }
 
--- the slot of a scalar's row that there is, for an integer of the word
+-- the slot of a scalar's rule that there is, for an integer of the word
 scalar_slot-is : (dtype : Option DataType) (from : DataType) (k : ℤ)
     (rules : Option OperatorRule) (rule : OperatorRule) (slot : Option Value) →
     dtype ≡ Some from → is_scalar_of from k ≡ true → rules ≡ Some rule →
@@ -150,7 +150,7 @@ scalar_slot-is dtype from k rules rule slot typed holds ruled =
     ∙ ap (λ b. if b then rule_slot rules slot else None) holds
     ∙ ap (λ r. rule_slot r slot) ruled)
 
--- what a scalar node answers, by its row and the test of its integer
+-- what a scalar node answers, by its rule and the test of its integer
 due_scalar : (inputs : List Column) (refused : Option EvalError) (node : ℕ) (t : Tree)
     (c : Column) (name : OpName) (k : ℤ) (rules : Option OperatorRule) →
     refused ≡ scalar_refusal_at node (Some c.dtype) k rules →
@@ -162,7 +162,7 @@ due_scalar inputs refused node t c name k (Some rule) same is =
     due_by inputs refused node t (ruled_column c rule) (errors.Scalar k) (is_scalar_of c.dtype k)
     same (is rule refl)
 
--- what a change of unit answers, by its row
+-- what a change of unit answers, by its rule
 due_unit : (inputs : List Column) (refused : Option EvalError) (node : ℕ) (t : Tree)
     (c : Column) (rules : Option OperatorRule) → refused ≡ unsupported_at node rules →
     ((rule : OperatorRule) → rules ≡ Some rule → IsColumnOf inputs t (ruled_column c rule)) →
@@ -289,11 +289,11 @@ numbers_of_over first node (operations.Shift periods) e at =
     ap (λ n. Over n (numbers_from first e)) (sym at)
 
 -- the same, where the nodes are numbered from `first` on
-pub unary_found : (inputs : List Column) (first node : ℕ) (op : UnaryOp) (e : Tree) (c : Column)
+pub found_unary_from : (inputs : List Column) (first node : ℕ) (op : UnaryOp) (e : Tree) (c : Column)
     (answer : Result Chunked EvalError) → node ≡ first + node_count e →
     IsFine inputs (numbers_from first e) e c → GivesBy column_of answer (unary_at node op c) →
     IsFound inputs (numbers_from first (over op e)) (over op e) answer
-unary_found inputs first node op e c answer at operand gives =
+found_unary_from inputs first node op e c answer at operand gives =
     let P : Numbers → Type 0 = λ numbers. IsFound inputs numbers (over op e) answer in
     subst P (sym (numbers_of_over first node op e at))
     (found_unary inputs (Over node (numbers_from first e)) op e c answer operand gives)

@@ -6,7 +6,8 @@ use Rattle.col_expr.specs.declared.error.ExprCause.{ExprCause}
 use Rattle.col_expr.specs.declared.error.ExprCause.TheVariants as causes
 use Rattle.col_expr.specs.declared.node.UnaryOp.{UnaryOp}
 use Rattle.col_expr.specs.declared.node.UnaryOp.TheVariants as operations
-use Rattle.col_expr.specs.Tree.{Tree, Input, Cast, Binary, ScalarRight, ScalarLeft, InUnit, Shift, node_count, depth_of, max_nodes, max_depth}
+use Rattle.col_expr.specs.Tree.{Tree, Input, Cast, Binary, ScalarRight, ScalarLeft, InUnit, Shift}
+use Rattle.col_expr.specs.Tree.{node_count, depth_of, max_nodes, max_depth}
 
 -- whether a cast to the target is built: columns of the type exist, or it is a text, bytes or a
 -- nested type, which is refused when it is evaluated

@@ -1,5 +1,6 @@
 -- What the evaluation of a part of an expression answers.
-use Rattle.std.specs.Prelude.{◌≡◌, ℕ, List, length, Option, Some, None, Result, Ok, Err, if◌then◌else◌}
+use Rattle.std.specs.Prelude.{◌≡◌, ℕ, List, length, Option, Some, None, Result, Ok, Err}
+use Rattle.std.specs.Prelude.{if◌then◌else◌}
 use Rattle.col_types.specs.DataType.{is_expression_target}
 use Rattle.col_types.specs.declared.data_type.DataType.{DataType}
 use Rattle.col_types.specs.declared.cast_options.CastOptions.{CastOptions}

@@ -1,5 +1,6 @@
 -- Laws that are stated here and proved at the functions that cite them.
-use Rattle.std.specs.Prelude.{◌≡◌, ℕ, ℤ, ◌+◌, Bool, true, false, List, [], ◌∷◌, ◌++◌, length, Option, Some, None, is_some, Result, IfErr}
+use Rattle.std.specs.Prelude.{◌≡◌, ℕ, ℤ, ◌+◌, Bool, true, false, List, [], ◌∷◌, ◌++◌, length}
+use Rattle.std.specs.Prelude.{Option, Some, None, is_some, Result, IfErr}
 use Rattle.std.specs.Option.{option_or}
 use Rattle.col_types.specs.declared.data_type.DataType.{DataType}
 use Rattle.col_types.specs.declared.cast_options.CastOptions.{CastOptions}
@@ -13,7 +14,8 @@ use Rattle.col_model.specs.ColumnCalls.{cast_of}
 use Rattle.col_model.specs.OperatorCalls.{binary_of, scalar_right_of, scalar_left_of, in_unit_of}
 use Rattle.col_expr.specs.declared.error.EvalError.{EvalError}
 use Rattle.col_expr.specs.declared.error.EvalError.TheVariants as refusals
-use Rattle.col_expr.specs.Tree.{Tree, Input, Cast, Binary, ScalarRight, ScalarLeft, InUnit, Shift, Symbol, is_within_limits, postfix}
+use Rattle.col_expr.specs.Tree.{Tree, Input, Cast, Binary, ScalarRight, ScalarLeft, InUnit, Shift}
+use Rattle.col_expr.specs.Tree.{Symbol, is_within_limits, postfix}
 use Rattle.col_expr.specs.Postfix.{tree_of}
 use Rattle.col_expr.specs.Numbers.{Numbers, numbers_from}
 use Rattle.col_expr.specs.Meaning.{name_of, dtype_of, rows_of}

@@ -1,5 +1,6 @@
 -- The name, the type, the rows and each slot of a node, over the columns of an expression.
-use Rattle.std.specs.Prelude.{ℕ, ℤ, ◌+◌, Bool, false, List, [], length, Option, Some, None, slice_get, slice_index_or, unwrap_or, if◌then◌else◌}
+use Rattle.std.specs.Prelude.{ℕ, ℤ, ◌+◌, Bool, false, List, [], length, Option, Some, None}
+use Rattle.std.specs.Prelude.{slice_get, slice_index_or, unwrap_or, if◌then◌else◌}
 use Rattle.std.specs.Option.{option_map, option_and_then}
 use Rattle.std.specs.Result.{result_ok}
 use Rattle.col_types.specs.DataType.{is_expression_target}
@@ -15,7 +16,8 @@ use Rattle.col_model.specs.Column.{Column}
 use Rattle.col_model.specs.Broadcast.{column_slots, broadcast_length, operand_row, row_before}
 use Rattle.col_model.specs.CastTable.{CastRule, cast_rule, resolved_target}
 use Rattle.col_model.specs.OperatorTable.{OperatorRule, operator_rule}
-use Rattle.col_model.specs.ScalarTable.{scalar_right_rule, scalar_left_rule, is_scalar_of, unit_change_rule}
+use Rattle.col_model.specs.ScalarTable.{scalar_right_rule, scalar_left_rule, is_scalar_of}
+use Rattle.col_model.specs.ScalarTable.{unit_change_rule}
 use Rattle.col_model.specs.Formula.{slot_by, slots_by}
 use Rattle.col_model.specs.ColumnCalls.{cast_slot, cast_flag}
 use Rattle.col_expr.specs.Tree.{Tree, Input, Cast, Binary, ScalarRight, ScalarLeft, InUnit, Shift}
@@ -95,7 +97,8 @@ name_of inputs (ScalarLeft value op operand) = name_of inputs operand
 name_of inputs (InUnit operand unit) = name_of inputs operand
 name_of inputs (Shift operand periods) = name_of inputs operand
 
--- the type of a node, none where an operand has none, a cast's target is bad, or no table has a rule
+-- the type of a node, none where an operand has none, a cast's target is bad, or no table has a
+-- rule
 abbrev pub dtype_of : List Column → Tree → Option DataType
 dtype_of inputs (Input index) = option_map (λ (c : Column). c.dtype) (slice_get inputs index)
 dtype_of inputs (Cast operand target options) = cast_dtype (dtype_of inputs operand) target
@@ -160,8 +163,8 @@ cast_flag_for None target slots flag = Not
 cast_flag_for (Some from) target slots flag =
     cast_flag from (resolved_target from target) slots flag
 
--- the sorted flag of a node: an input's own, a cast's where the cast keeps the order of its operand's
--- slots, and no claim elsewhere
+-- the sorted flag of a node: an input's own, a cast's where the cast keeps the order of its
+-- operand's slots, and no claim elsewhere
 abbrev pub flag_of : List Column → Tree → IsSorted
 flag_of inputs (Input index) =
     unwrap_or (option_map (λ (c : Column). c.flag) (slice_get inputs index)) Not

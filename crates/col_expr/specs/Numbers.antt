@@ -1,7 +1,8 @@
--- The numbers of a tree's nodes, beside the tree: a tree with fewer nodes so keeps the numbers that
--- they had in the whole one.
+-- The numbers of a tree's nodes, beside the tree: a tree with fewer nodes so keeps the numbers
+-- that they had in the whole one.
 use Rattle.std.specs.Prelude.{ℕ, ◌+◌}
-use Rattle.col_expr.specs.Tree.{Tree, Input, Cast, Binary, ScalarRight, ScalarLeft, InUnit, Shift, node_count}
+use Rattle.col_expr.specs.Tree.{Tree, Input, Cast, Binary, ScalarRight, ScalarLeft, InUnit, Shift}
+use Rattle.col_expr.specs.Tree.{node_count}
 
 -- a node's number, and those of the nodes below it
 pub data Numbers : Type 0 where

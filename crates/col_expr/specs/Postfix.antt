@@ -1,6 +1,9 @@
 -- The tree that a list of nodes in postfix order stands for, built on a stack.
-use Rattle.std.specs.Prelude.{Bool, List, [], ◌∷◌, Option, Some, None, option_and_then, if◌then◌else◌}
-use Rattle.col_expr.specs.Tree.{Tree, Input, Cast, Binary, ScalarRight, ScalarLeft, InUnit, Shift, Symbol, TakeInput, CastTo, Apply, ApplyRight, ApplyLeft, ToUnit, ShiftBy, is_within_limits}
+use Rattle.std.specs.Prelude.{Bool, List, [], ◌∷◌, Option, Some, None, option_and_then}
+use Rattle.std.specs.Prelude.{if◌then◌else◌}
+use Rattle.col_expr.specs.Tree.{Tree, Input, Cast, Binary, ScalarRight, ScalarLeft, InUnit, Shift}
+use Rattle.col_expr.specs.Tree.{Symbol, TakeInput, CastTo, Apply, ApplyRight, ApplyLeft, ToUnit}
+use Rattle.col_expr.specs.Tree.{ShiftBy, is_within_limits}
 
 -- the tree on top of the stack, where it is one to keep
 abbrev pub onto : (Tree → Bool) → Tree → List Tree → Option (List Tree)

@@ -1,5 +1,6 @@
 -- Which node of an expression is refused first, and why.
-use Rattle.std.specs.Prelude.{◌≡◌, ℕ, ◌+◌, ℤ, nat_lt, List, length, Option, Some, None, Result, Ok, Err, if◌then◌else◌}
+use Rattle.std.specs.Prelude.{◌≡◌, ℕ, ◌+◌, ℤ, nat_lt, List, length, Option, Some, None, Result, Ok}
+use Rattle.std.specs.Prelude.{Err, if◌then◌else◌}
 use Rattle.std.specs.Option.{option_map, option_or}
 use Rattle.col_types.specs.DataType.{is_expression_target}
 use Rattle.col_types.specs.declared.data_type.DataType.{DataType}
@@ -14,7 +15,10 @@ use Rattle.col_expr.specs.declared.error.EvalError.{EvalError}
 use Rattle.col_expr.specs.declared.error.EvalError.TheVariants as refusals
 use Rattle.col_expr.specs.Tree.{Tree, Input, Cast, Binary, ScalarRight, ScalarLeft, InUnit, Shift}
 use Rattle.col_expr.specs.Numbers.{Numbers, number_at, below, left_of, right_of, numbers_from}
-use Rattle.col_expr.specs.Meaning.{dtype_of, rows_of, row_count, slots_of, cast_rule_for, operator_rule_for, scalar_right_rule_for, scalar_left_rule_for, is_scalar_for, unit_change_rule_for, broadcast_length_for, result_column}
+use Rattle.col_expr.specs.Meaning.{dtype_of, rows_of, row_count, slots_of, cast_rule_for}
+use Rattle.col_expr.specs.Meaning.{operator_rule_for, scalar_right_rule_for, scalar_left_rule_for}
+use Rattle.col_expr.specs.Meaning.{is_scalar_for, unit_change_rule_for, broadcast_length_for}
+use Rattle.col_expr.specs.Meaning.{result_column}
 
 -- a column's refusal as that of a node. Only want of memory ends as want of memory; no call that a
 -- node makes is refused for the last causes, and were one, the node would be told as unsupported.

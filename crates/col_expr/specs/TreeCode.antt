@@ -1,5 +1,6 @@
 -- A tree is given back by its list of nodes.
-use Rattle.std.specs.Prelude.{◌≡◌, ℕ, ℤ, Bool, true, List, [], ◌∷◌, ◌++◌, Some, option_and_then, unwrap_or, refl, ◌⊎◌}
+use Rattle.std.specs.Prelude.{◌≡◌, ℕ, ℤ, Bool, true, List, [], ◌∷◌, ◌++◌, Some, option_and_then}
+use Rattle.std.specs.Prelude.{unwrap_or, refl, ◌⊎◌}
 use Rattle.std.proofs.Common.{inl, inr, ap, sym, ◌∙◌, append_assoc}
 use Rattle.std.specs.Coded.{Coded, code_by, coded×, coded⊎, coded_ℕ, coded_ℤ, coded_list}
 use Rattle.col_types.specs.declared.data_type.DataType.{DataType}
@@ -12,13 +13,17 @@ use Rattle.col_types.specs.contracts.cast_options.CastOptions as cast_options
 use Rattle.col_types.specs.contracts.time_unit.TimeUnit as time_unit
 use Rattle.col_types.specs.contracts.operator.BinOp as operator
 use Rattle.col_types.specs.contracts.operator.ScalarOp as scalar_operator
-use Rattle.col_expr.specs.Tree.{Tree, Input, Cast, Binary, ScalarRight, ScalarLeft, InUnit, Shift, Symbol, TakeInput, CastTo, Apply, ApplyRight, ApplyLeft, ToUnit, ShiftBy, postfix}
+use Rattle.col_expr.specs.Tree.{Tree, Input, Cast, Binary, ScalarRight, ScalarLeft, InUnit, Shift}
+use Rattle.col_expr.specs.Tree.{Symbol, TakeInput, CastTo, Apply, ApplyRight, ApplyLeft, ToUnit}
+use Rattle.col_expr.specs.Tree.{ShiftBy, postfix}
 use Rattle.col_expr.specs.Postfix.{stack_after, only_tree}
 
 -- a node without its operands, as one of seven cases
 abbrev Cases : Type 0
-Cases = ℕ ⊎ ((DataType × CastOptions) ⊎ (BinOp ⊎ ((ScalarOp × ℤ) ⊎ ((ℤ × BinOp) ⊎ (TimeUnit ⊎ ℤ)))))
+Cases =
+    ℕ ⊎ ((DataType × CastOptions) ⊎ (BinOp ⊎ ((ScalarOp × ℤ) ⊎ ((ℤ × BinOp) ⊎ (TimeUnit ⊎ ℤ)))))
 
+-- the case of a node
 abbrev cases_of : Symbol → Cases
 cases_of (TakeInput index) = inl index
 cases_of (CastTo dtype options) = inr (inl (dtype, options))
@@ -28,6 +33,7 @@ cases_of (ApplyLeft value op) = inr (inr (inr (inr (inl (value, op)))))
 cases_of (ToUnit unit) = inr (inr (inr (inr (inr (inl unit)))))
 cases_of (ShiftBy periods) = inr (inr (inr (inr (inr (inr periods)))))
 
+-- the node of a case
 abbrev symbol_of : Cases → Symbol
 symbol_of (inl index) = TakeInput index
 symbol_of (inr (inl (dtype, options))) = CastTo dtype options
@@ -37,6 +43,7 @@ symbol_of (inr (inr (inr (inr (inl (value, op)))))) = ApplyLeft value op
 symbol_of (inr (inr (inr (inr (inr (inl unit)))))) = ToUnit unit
 symbol_of (inr (inr (inr (inr (inr (inr periods)))))) = ShiftBy periods
 
+-- a node is given back by its case
 pub symbol_of-cases_of : (symbol : Symbol) → symbol_of (cases_of symbol) ≡ symbol
 symbol_of-cases_of (TakeInput index) = refl
 symbol_of-cases_of (CastTo dtype options) = refl
@@ -46,6 +53,7 @@ symbol_of-cases_of (ApplyLeft value op) = refl
 symbol_of-cases_of (ToUnit unit) = refl
 symbol_of-cases_of (ShiftBy periods) = refl
 
+-- nodes are told apart by their cases
 abbrev pub symbol_code : Coded Symbol
 symbol_code =
     code_by Cases
@@ -99,11 +107,13 @@ append_nil' : (symbols : List Symbol) → symbols ++ [] ≡ symbols
 append_nil' [] = refl
 append_nil' (s ∷ symbols) = ap (λ us. s ∷ us) (append_nil' symbols)
 
+-- a tree is given back by its nodes
 pub built_from-postfix : (tree : Tree) → built_from (postfix tree) ≡ tree
 built_from-postfix tree =
     ap built_from (sym (append_nil' (postfix tree)))
     ∙ ap (λ stack. unwrap_or (option_and_then only_tree stack) (Input 0))
     (stack_after-postfix tree [] [])
 
+-- trees are told apart by their nodes
 abbrev pub tree_code : Coded Tree
 tree_code = code_by (List Symbol) (coded_list symbol_code) postfix built_from built_from-postfix

@@ -10,7 +10,7 @@ pub enum EvalError {
     Lengths { node: u32, left: u32, right: u32 },
     /// The target is no type of an expression.
     BadType { node: u32 },
-    /// No table has a row for the operands' types.
+    /// No table has a rule for the operands' types.
     Unsupported { node: u32 },
     /// The scalar isn't in the operand's physical word.
     Scalar { node: u32 },

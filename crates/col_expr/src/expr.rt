@@ -196,7 +196,8 @@ impl Expr {
         Expr::unary(alloc, UnaryOp::InUnit(unit), operand)
     }
 
-    /// The operand with each slot so many rows further down, up where negative. Refused as `unary`.
+    /// The operand with each slot so many rows further down, up where negative. Refused as
+    /// `unary`.
     pub fn shift(alloc: Global, operand: Expr, periods: i64) -> Result<Expr, ExprRefused>
         ensures tree { IfOk result (λ e. e ≡ Shift operand periods) }
         ensures fits { OnOk result (is_within_limits (Shift operand periods) ≡ true) }

@@ -39,8 +39,8 @@ pub fn refusals_name_their_node()
     ensures outcomes { OutcomesNameTheirNode }
 {}
 
-/// The nodes of each tree within the limits are read as that tree, and at most one tree has a given
-/// list of nodes.
+/// The nodes of each tree within the limits are read as that tree, and at most one tree has a
+/// given list of nodes.
 pub fn one_tree_fits()
     ensures read_back { TreesReadBack }
     ensures only { OneTreeFits }

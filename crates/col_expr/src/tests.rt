@@ -118,72 +118,6 @@ fn refuses(
 }
 
 #[test]
-fn a_coarser_unit_rounds_down(rt: HostRuntime) -> Result<(), Fail> {
-    let alloc = rt.alloc();
-    let slots = [Some(-1), None, Some(1_999_999)];
-    let inputs = one_input(alloc, TimeUnit::Nanoseconds, &slots)?;
-    let target = moments(TimeUnit::Milliseconds);
-    let expr = cast(alloc, Expr::input(0), target, CastOptions::NonStrict)?;
-    let column = answer(alloc, &expr, &inputs)?;
-    assert_eq!(rt; column.name().as_str(), "a");
-    assert_eq!(rt; column.len(), 3);
-    for (row, wanted) in [(0, Some(-1)), (1, None), (2, Some(1))] {
-        assert_eq!(rt; tick(&column, row)?, wanted, "at {row}");
-    }
-    Ok(())
-}
-
-#[test]
-fn refusals_name_the_first_refused_node(rt: HostRuntime) -> Result<(), Fail> {
-    let alloc = rt.alloc();
-    let slots = [None, Some(9_223_372_036_854_775_807)];
-    let inputs = one_input(alloc, TimeUnit::Milliseconds, &slots)?;
-    let finer = moments(TimeUnit::Microseconds);
-    let length = DataType::Duration(TimeUnit::Milliseconds);
-    let same = moments(TimeUnit::Milliseconds);
-    let past = cast(alloc, Expr::input(1), finer, CastOptions::NonStrict)?;
-    let chain = cast(alloc, Expr::input(0), same, CastOptions::NonStrict)?;
-    let chain = cast(alloc, chain, length, CastOptions::NonStrict)?;
-    let chain = cast(
-        alloc,
-        chain,
-        moments(TimeUnit::Milliseconds),
-        CastOptions::NonStrict,
-    )?;
-    let lossy = cast(
-        alloc,
-        Expr::input(0),
-        moments(TimeUnit::Nanoseconds),
-        CastOptions::Strict,
-    )?;
-    let text = cast(
-        alloc,
-        Expr::input(0),
-        DataType::String,
-        CastOptions::NonStrict,
-    )?;
-    for (given, wanted) in [
-        (text, EvalError::BadType { node: 1 }),
-        (
-            past,
-            EvalError::NoColumn {
-                node: 0,
-                index: 1,
-                count: 1,
-            },
-        ),
-        (chain, EvalError::Unsupported { node: 2 }),
-        (lossy, EvalError::Strict { node: 1, row: 1 }),
-    ] {
-        match answer(alloc, &given, &inputs) {
-            Ok(_) => return Err(Fail::new("not refused")),
-            Err(error) => assert!(rt; error == wanted, "at {wanted:?}"),
-        }
-    }
-    Ok(())
-}
-
-#[test]
 fn the_deepest_expression_is_evaluated(rt: HostRuntime) -> Result<(), Fail> {
     let alloc = rt.alloc();
     let inputs = one_input(alloc, TimeUnit::Milliseconds, &[Some(7)])?;
@@ -212,24 +146,24 @@ fn each_node_has_its_column(rt: HostRuntime) -> Result<(), Fail> {
     let inputs = two_inputs(alloc, &[Some(5), None, Some(-7)], &lengths)?;
     let sum = Expr::binary(alloc, BinOp::Add, Expr::input(0), Expr::input(1));
     shows(alloc, &inputs, sum, &[Some(7), None, Some(-3)])?;
-    let difference = Expr::binary(alloc, BinOp::Sub, Expr::input(0), Expr::input(1));
-    shows(alloc, &inputs, difference, &[Some(3), None, Some(-11)])?;
     let half = Expr::scalar_right(alloc, Expr::input(0), ScalarOp::TruncDiv, 2);
     shows(alloc, &inputs, half, &[Some(2), None, Some(-3)])?;
     let rest = Expr::scalar_left(alloc, 10, BinOp::Sub, Expr::input(0));
     shows(alloc, &inputs, rest, &[Some(5), None, Some(17)])?;
-    let finer = Expr::unit(alloc, Expr::input(0), TimeUnit::Microseconds);
-    shows(alloc, &inputs, finer, &[Some(5_000), None, Some(-7_000)])?;
     let down = Expr::shift(alloc, Expr::input(0), 1);
-    shows(alloc, &inputs, down, &[None, Some(5), None])
+    shows(alloc, &inputs, down, &[None, Some(5), None])?;
+    let finer = built(Expr::unit(alloc, Expr::input(0), TimeUnit::Microseconds))?;
+    let less = UnaryOp::ScalarRight(ScalarOp::Sub, 1);
+    let less = built(Expr::unary(alloc, less, finer))?;
+    let coarser = moments(TimeUnit::Milliseconds);
+    let coarser = Expr::cast(alloc, less, coarser, CastOptions::NonStrict);
+    shows(alloc, &inputs, coarser, &[Some(4), None, Some(-8)])
 }
 
 #[test]
-fn the_tests_of_a_node_come_in_order(rt: HostRuntime) -> Result<(), Fail> {
+fn two_operands_are_tested_in_order(rt: HostRuntime) -> Result<(), Fail> {
     let alloc = rt.alloc();
     let inputs = two_inputs(alloc, &[Some(5), None, Some(-7)], &[Some(2), Some(3)])?;
-    let too_large = Expr::scalar_right(alloc, Expr::input(0), ScalarOp::Add, 1 << 63);
-    refuses(alloc, &inputs, too_large, EvalError::Scalar { node: 1 })?;
     let apart = Expr::binary(alloc, BinOp::Mul, Expr::input(0), Expr::input(1));
     let lengths = EvalError::Lengths {
         node: 2,
@@ -246,6 +180,24 @@ fn the_tests_of_a_node_come_in_order(rt: HostRuntime) -> Result<(), Fail> {
         count: 2,
     };
     refuses(alloc, &inputs, both, left)
+}
+
+#[test]
+fn one_operand_is_tested_in_order(rt: HostRuntime) -> Result<(), Fail> {
+    let alloc = rt.alloc();
+    let inputs = one_input(alloc, TimeUnit::Milliseconds, &[None, Some(5)])?;
+    let too_large = Expr::scalar_right(alloc, Expr::input(0), ScalarOp::Add, 1 << 63);
+    refuses(alloc, &inputs, too_large, EvalError::Scalar { node: 1 })?;
+    let text = Expr::cast(alloc, Expr::input(0), DataType::String, CastOptions::Strict);
+    refuses(alloc, &inputs, text, EvalError::BadType { node: 1 })?;
+    let late = Expr::scalar_right(alloc, Expr::input(0), ScalarOp::Add, 1 << 62);
+    let finer = moments(TimeUnit::Microseconds);
+    let lossy = Expr::cast(alloc, built(late)?, finer, CastOptions::Strict);
+    refuses(alloc, &inputs, lossy, EvalError::Strict { node: 2, row: 1 })?;
+    let length = DataType::Duration(TimeUnit::Milliseconds);
+    let unlisted = Expr::cast(alloc, Expr::input(0), length, CastOptions::NonStrict);
+    let past_it = Expr::shift(alloc, built(unlisted)?, 1);
+    refuses(alloc, &inputs, past_it, EvalError::Unsupported { node: 1 })
 }
 
 // The full tree of so many levels.

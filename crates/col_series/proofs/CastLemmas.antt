@@ -3,8 +3,7 @@ use Rattle.std.proofs.Common.{◌≡◌, ℕ, ℤ, Bool, true, false, List, map,
 use Rattle.std.specs.List.{list_all, list_any}
 use Rattle.std.proofs.lemmas.List.{length-map}
 use Rattle.col_types.specs.DataType.{kind_of, is_bad_target}
-use Rattle.col_types.specs.declared.time_unit.TimeUnit.{TimeUnit}
-use Rattle.col_types.specs.declared.data_type.DataType.{DataType, Date, Datetime, Duration, Time, Decimal}
+use Rattle.col_types.specs.declared.data_type.DataType.{DataType}
 use Rattle.col_types.specs.declared.cast_options.CastOptions.{CastOptions}
 use Rattle.col_types.specs.declared.is_sorted.IsSorted.TheVariants.{Not}
 use Rattle.col_types.specs.declared.error.PolarsError.{PolarsError}
@@ -18,7 +17,7 @@ use Rattle.col_model.specs.ColumnCalls.{unless_refused, cast_slot, strict_refusa
 use Rattle.col_series.specs.declared.tick_rule.TickRule.{TickRule}
 use Rattle.col_series.specs.TickRule.{changed_tick, changed_ticks, cast_rule_of, first_lost_tick}
 use Rattle.col_series.specs.Slots.{is_fit, cast_slots, ticks_column}
-use Rattle.col_series.proofs.TypeLemmas.{by_built_type, built_target}
+use Rattle.col_series.proofs.TypeLemmas.{built_target, built_settled}
 use Rattle.col_series.proofs.SlotLemmas.{any_valid, all_null, on_slot-ticks}
 use Rattle.col_series.proofs.RuleLemmas.{cast_slots-fit}
 
@@ -63,27 +62,6 @@ refused_alike : {S T : Type 0} (refusal : Option PolarsError) (x : S) (y : T) (e
 refused_alike None x y e h = cc
 refused_alike (Some refused) x y e h = cc
 
--- a target of which columns exist leaves nothing open
-settled : (from target : DataType) → is_built_target target ≡ true → is_bad_target target ≡ false → resolved_target from target ≡ target
-settled from target built good = by_built_type (λ t. resolved_target from t ≡ t)
-    (date from) (λ unit name. moment unit name from) (λ unit. length unit from) (time from) target (built_target target built good)
-  where
-    date : (from : DataType) → resolved_target from Date ≡ Date
-    date (Decimal p s) = refl
-    date from = refl
-
-    moment : (unit : TimeUnit) (name : Option (List ℕ)) (from : DataType) → resolved_target from (Datetime unit name) ≡ Datetime unit name
-    moment unit name (Decimal p s) = refl
-    moment unit name from = refl
-
-    length : (unit : TimeUnit) (from : DataType) → resolved_target from (Duration unit) ≡ Duration unit
-    length unit (Decimal p s) = refl
-    length unit from = refl
-
-    time : (from : DataType) → resolved_target from Time ≡ Time
-    time (Decimal p s) = refl
-    time from = refl
-
 -- no claim is kept where there was none
 no_flag : (kept : Bool) → kept_flag kept Not ≡ Not
 no_flag true = refl
@@ -96,7 +74,7 @@ pub cast_given : (name : List ℕ) (from target : DataType) (options : CastOptio
     → cast_of (ticks_column name from ticks) target options ≡ Ok (ticks_column name target changed)
 cast_given name from target options ticks changed built e =
     let is = answered _ _ _ e in
-    let same = settled from target built (answered_good _ _ _ _ _ e) in
+    let same = built_settled from target (built_target target built (answered_good _ _ _ _ _ e)) in
     rw same (rw (is.1) (rw (← is.0, no_flag) refl))
 
 -- and is refused where they are
@@ -109,7 +87,7 @@ cast_refused name from target options ticks refusal built e = go (is_bad_target 
     go : (bad : Bool) → is_bad_target target ≡ bad → cast_of (ticks_column name from ticks) target options ≡ Err refusal
     go true is = rw is (refused_alike (Some (errors.BadType (kind_of target)))
         (map (cast_slot (cast_rule from target options)) (map integer_slot ticks)) (cast_column (ticks_column name from ticks) (resolved_target from target) options) refusal (rw is at e))
-    go false is = rw (settled from target built is) (refused_alike (cast_refusal from target options (cast_rule from target options) (map integer_slot ticks))
+    go false is = rw (built_settled from target (built_target target built is)) (refused_alike (cast_refusal from target options (cast_rule from target options) (map integer_slot ticks))
         (map (cast_slot (cast_rule from target options)) (map integer_slot ticks)) (cast_column (ticks_column name from ticks) target options) refusal e)
 
 refused_by : {S T V W : Type 0} (v : S → T) (w : V → W) (refusal : PolarsError) (a : Result T PolarsError) (b : Result W PolarsError)

@@ -9,6 +9,7 @@ use Rattle.col_types.specs.declared.time_unit.TimeUnit.{TimeUnit}
 use Rattle.col_model.specs.Arithmetic.{Signed, word_values, is_within}
 use Rattle.col_model.specs.Value.{integer_slot}
 use Rattle.col_model.specs.Column.{is_built_type, is_slot_of, day_values}
+use Rattle.col_model.specs.CastTable.{resolved_target}
 use Rattle.col_model.specs.ColumnCalls.{is_unfit, is_built_target}
 use Rattle.col_series.specs.Slots.{is_fit, is_tick_slot}
 
@@ -60,6 +61,26 @@ built_good (Datetime unit name) h = unless (is_wildcard name) h
 built_good (Duration unit) h = refl
 built_good Time h = refl
 built_good dtype h = cc
+
+-- such a type leaves nothing open as a target
+pub built_settled : (from target : DataType) → is_built_type target ≡ true → resolved_target from target ≡ target
+built_settled from = by_built_type (λ t. resolved_target from t ≡ t) (date from) (λ unit zone. moment unit zone from) (λ unit. length unit from) (time from)
+  where
+    date : (from : DataType) → resolved_target from Date ≡ Date
+    date (Decimal p s) = refl
+    date from = refl
+
+    moment : (unit : TimeUnit) (zone : Option (List ℕ)) (from : DataType) → resolved_target from (Datetime unit zone) ≡ Datetime unit zone
+    moment unit zone (Decimal p s) = refl
+    moment unit zone from = refl
+
+    length : (unit : TimeUnit) (from : DataType) → resolved_target from (Duration unit) ≡ Duration unit
+    length unit (Decimal p s) = refl
+    length unit from = refl
+
+    time : (from : DataType) → resolved_target from Time ≡ Time
+    time (Decimal p s) = refl
+    time from = refl
 
 -- ---- words
 

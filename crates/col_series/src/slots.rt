@@ -7,8 +7,8 @@ ghost use Rattle.col_model.specs.Column.{is_built_type, day_values};
 ghost use Rattle.col_model.specs.ColumnCalls.{is_unfit, first_unfit};
 ghost use Rattle.col_series.specs.Slots.{is_tick_slot};
 
-use crate::{DataType, TimeUnit};
-use col_model::ticks_per_day;
+use crate::DataType;
+use col_types::NANOS_PER_DAY;
 use std::alloc::{AllocError, Global};
 
 /// A column has fewer rows.
@@ -32,7 +32,7 @@ fn is_tick(value: i128) -> bool
 fn is_time(value: i128) -> bool
     ensures within { result ≡ is_within day_values value }
 {
-    0 <= value && value < i128::from(ticks_per_day(TimeUnit::Nanoseconds))
+    0 <= value && value < i128::from(NANOS_PER_DAY)
 }
 
 /// Whether the slot may not stand in a column of the type.

@@ -31,7 +31,7 @@ fn tick_at(column: &Series, row: usize) -> PolarsResult<Option<i64>> {
     }
 }
 
-/// A column of the value and a null, cast, and its first tick.
+/// A column of the value and a null, cast by the call for the options, and its first tick.
 fn cast_tick(
     alloc: Global,
     from: &DataType,
@@ -43,7 +43,11 @@ fn cast_tick(
     requires to { is_built_target to.now ≡ true }
 {
     let column = column(alloc, from, &[value, None])?;
-    let cast = column.cast_with_options(alloc, to, options)?;
+    let cast = match options {
+        CastOptions::NonStrict => column.cast(alloc, to)?,
+        CastOptions::Strict => column.strict_cast(alloc, to)?,
+        CastOptions::Overflowing => column.cast_with_options(alloc, to, options)?,
+    };
     tick_at(&cast, 0)
 }
 
@@ -195,7 +199,7 @@ fn moments_to_days(rt: HostRuntime) {
 }
 
 #[test]
-fn moments_to_times(rt: HostRuntime) {
+fn times_of_moments_and_moments_of_days(rt: HostRuntime) {
     for (unit, given, wanted) in [
         (MICROS, -1, 86_399_999_999_000),
         (MILLIS, 86_400_001, 1_000_000),
@@ -206,10 +210,6 @@ fn moments_to_times(rt: HostRuntime) {
         let answer = cast_tick(rt.alloc(), &from, &DataType::Time, options, Some(given));
         assert_eq!(rt; answer, Ok(Some(wanted)), "at {given}");
     }
-}
-
-#[test]
-fn days_to_moments(rt: HostRuntime) {
     for (unit, given, wanted) in [
         (MICROS, 106_751_991, Some(9_223_372_022_400_000_000)),
         (MICROS, 106_751_992, None),
@@ -263,7 +263,7 @@ fn strict_casts_name_the_first_lost_row(rt: HostRuntime) {
 }
 
 #[test]
-fn pairs_outside_the_table(rt: HostRuntime) {
+fn casts_are_refused_in_order(rt: HostRuntime) -> Result<(), Fail> {
     let (from, to) = (Kind::Date, Kind::Duration(MILLIS));
     for (given, wanted) in [
         (None, Ok(None)),
@@ -274,33 +274,18 @@ fn pairs_outside_the_table(rt: HostRuntime) {
         let answer = cast_tick(rt.alloc(), &DataType::Date, &target, options, given);
         assert_eq!(rt; answer, wanted, "at {given:?}");
     }
-}
-
-#[test]
-fn bad_targets_come_first(rt: HostRuntime) -> Result<(), Fail> {
     let any = TimeZone::opt_try_new(Some("*"), &ZoneNames::new(rt.alloc()))?;
     let wild = DataType::Datetime(MICROS, any);
     let dtype = Kind::Datetime(MICROS);
+    let options = CastOptions::NonStrict;
     assert_eq!(rt;
-        cast_tick(
-            rt.alloc(),
-            &DataType::Date,
-            &wild,
-            CastOptions::NonStrict,
-            None
-        ),
+        cast_tick(rt.alloc(), &DataType::Date, &wild, options, None),
         Err(PolarsError::BadType { dtype })
     );
     let long = DataType::Decimal(Some(39), Some(0));
     let dtype = Kind::Decimal;
     assert_eq!(rt;
-        cast_tick(
-            rt.alloc(),
-            &DataType::Time,
-            &long,
-            CastOptions::Strict,
-            Some(0)
-        ),
+        cast_tick(rt.alloc(), &DataType::Time, &long, options, Some(0)),
         Err(PolarsError::BadType { dtype })
     );
     Ok(())

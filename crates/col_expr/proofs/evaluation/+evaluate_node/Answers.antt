@@ -3,14 +3,14 @@ use Rattle.col_model.specs.Chunked.{column_of, columns_of}
 use Rattle.col_expr.specs.Node.{node_tree, over}
 use Rattle.col_expr.specs.Tree.{Binary}
 use Rattle.col_expr.specs.Numbers.{numbers_from}
-use Rattle.col_expr.proofs.UnaryLemmas.{unary_found, steps_unary}
-use Rattle.col_expr.proofs.BinaryLemmas.{binary_found, steps_binary}
+use Rattle.col_expr.proofs.UnaryLemmas.{found_unary_from, steps_unary}
+use Rattle.col_expr.proofs.BinaryLemmas.{found_binary_from, steps_binary}
 use Rattle.col_expr.proofs.evaluation.+evaluate_node.Goals as goal
 
 pub returns-in_ok-column-in-Unary-clause-found : goal.returns-in_ok-column-in-Unary-clause-found
 returns-in_ok-column-in-Unary-clause-found g t c =
     rw (c.counted.ensures.answer, c.in-Unary.is)
-    (unary_found (columns_of c.args.inputs.now) c.args.next.now
+    (found_unary_from (columns_of c.args.inputs.now) c.args.next.now
     c.take_number-number-in-Unary.result c.in-Unary.operation
     (node_tree c.in-Unary.operand.value) (column_of c.in_ok-column-in-Unary.column)
     c.unary_column.result
@@ -33,7 +33,7 @@ returns-in_ok-column-in-Unary-clause-steps g t c =
 pub returns-in_ok-right-in-Binary-clause-found : goal.returns-in_ok-right-in-Binary-clause-found
 returns-in_ok-right-in-Binary-clause-found g t c =
     rw (c.counted-in-Binary.ensures.answer, c.in-Binary.is)
-    (binary_found (columns_of c.args.inputs.now) c.args.next.now
+    (found_binary_from (columns_of c.args.inputs.now) c.args.next.now
     c.evaluate_node-in-Binary.new.next c.take_number-number-in-Binary.result c.in-Binary.op
     (node_tree c.in-Binary.left.value) (node_tree c.in-Binary.right.value)
     (column_of c.in_ok-left-in-Binary.left) (column_of c.in_ok-right-in-Binary.right)

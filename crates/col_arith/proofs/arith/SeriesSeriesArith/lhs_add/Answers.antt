@@ -1,0 +1,6 @@
+use Rattle.std.specs.Int.{w128}
+use Rattle.std.proofs.lemmas.Int.{to_z-of_z}
+use Rattle.col_arith.proofs.arith.SeriesSeriesArith.lhs_add.Goals as goal
+
+pub returns : goal.returns
+returns c = record { answer = rw (to_z-of_z w128 _ c.ranges.lhs) at c.scalar_left.ensures.column }
