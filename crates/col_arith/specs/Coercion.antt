@@ -1,5 +1,6 @@
 -- How two columns come to common types before they meet.
-use Rattle.std.specs.Prelude.{◌≡◌, Bool, true, false, is_some, not, ◌||◌, length, Option, Some, None, Result, Ok, Err, if◌then◌else◌}
+use Rattle.std.specs.Prelude.{◌≡◌, ◌||◌, not, if◌then◌else◌, Bool, true, false, length}
+use Rattle.std.specs.Prelude.{Option, Some, None, is_some, Result, Ok, Err}
 use Rattle.std.specs.Option.{option_map}
 use Rattle.col_types.specs.TimeUnit.{coarser_unit}
 use Rattle.col_types.specs.DataType.{same_type}

@@ -3,3 +3,4 @@ pub mod Pairs
 pub mod ScalarForm
 pub mod Coercion
 pub mod Laws
+pub mod Intervals

@@ -16,7 +16,9 @@ use Rattle.col_arith.specs.declared.pair_rule.AddOrSub.TheVariants.{Add, Sub}
 use Rattle.col_arith.specs.declared.pair_rule.Operand.{Operand}
 use Rattle.col_arith.specs.declared.pair_rule.Operand.TheVariants.{Moment, Length, Day}
 use Rattle.col_arith.specs.declared.pair_rule.PairRule.{PairRule}
-use Rattle.col_arith.specs.declared.pair_rule.PairRule.TheVariants.{DatesApart, TimesApart, DateWith, LengthThenDate, Ticks, Rest}
+use Rattle.col_arith.specs.declared.pair_rule.PairRule.TheVariants.{DatesApart, TimesApart}
+use Rattle.col_arith.specs.declared.pair_rule.PairRule.TheVariants.{DateWith, LengthThenDate}
+use Rattle.col_arith.specs.declared.pair_rule.PairRule.TheVariants.{Ticks, Rest}
 use Rattle.col_arith.specs.declared.pair_rule.TypedRule.{TypedRule}
 
 -- the formula of a sum or a difference

@@ -15,8 +15,9 @@ use std::alloc::Global;
 
 /// Arithmetic of a column. An answer has the name of the column that the function is called on. A
 /// function of two columns is refused where neither the lengths are equal nor one of them is 1
-/// (`Lengths`), then where the types have no such operator (`Types`); one of a column and an integer
-/// where the type has no integers (`Types`), then where its word doesn't hold this one (`Scalar`).
+/// (`Lengths`), then where the types have no such operator (`Types`); one of a column and an
+/// integer where the type meets no integer (`Types`), then where its word doesn't hold this one
+/// (`Scalar`).
 pub trait SeriesArith: Drop {
     /// The column that it is, whatever its chunks.
     ghost column: { Self → Column };
@@ -41,8 +42,8 @@ pub trait SeriesArith: Drop {
         ensures answer { GivesBy column_of result
             (binary_of Div (column self.now) rhs.now.column) };
 
-    /// The rest that the quotient rounded down leaves, slot by slot; one row of either column stands
-    /// for all.
+    /// The rest that the quotient rounded down leaves, slot by slot; one row of either column
+    /// stands for all.
     fn try_rem(&self, alloc: Global, rhs: &Series) -> PolarsResult<Series>
         ensures answer { GivesBy column_of result
             (binary_of Rem (column self.now) rhs.now.column) };

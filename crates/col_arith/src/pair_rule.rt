@@ -148,7 +148,7 @@ pub(crate) fn operator_rule(op: BinOp, left: &DataType, right: &DataType) -> Pol
 }
 
 /// The rule that the table lists for an operator and two types, or none.
-fn listed_rule(op: BinOp, left: &DataType, right: &DataType) -> Option<TypedRule>
+pub(crate) fn listed_rule(op: BinOp, left: &DataType, right: &DataType) -> Option<TypedRule>
     ensures rule { listed_rule_of result ≡ listed_rule op left.now right.now }
     ensures fits { IfSome result (FitsTypes left.now right.now) }
 {

@@ -1,10 +1,10 @@
 // The rows of two columns under a rule of the operator table.
-ghost use Rattle.std.specs.Prelude.{◌≡◌, ◌<◌, true, length, IfOk, Some};
+ghost use Rattle.std.specs.Prelude.{◌≡◌, ◌<◌, ◌≤◌, true, length, IfOk, Some};
 ghost use Rattle.std.specs.List.{list_all};
 ghost use Rattle.col_model.specs.Broadcast.{broadcast_length, operand_row};
 ghost use Rattle.col_arith.specs.PairRule.{IsProper, is_tick_in, pair_tick};
 ghost use Rattle.col_arith.specs.PairRule.{left_values, right_values, answer_values};
-ghost use Rattle.col_arith.specs.Pairs.{tick_for, pair_ticks};
+ghost use Rattle.col_arith.specs.Pairs.{stride_of, tick_for, pair_ticks};
 
 use crate::pair_rule::PairRule;
 use crate::ticks::pair_tick;
@@ -25,16 +25,21 @@ pub(crate) fn broadcast_length(left: usize, right: usize) -> Option<usize>
     }
 }
 
-/// The tick that an operand has for an answer's row: one row stands for all.
-fn tick_for(ticks: &[Option<i64>], row: usize) -> Option<i64>
+/// How far the rows of an operand lie apart: one row stands for all.
+fn stride(ticks: &[Option<i64>]) -> usize
+    ensures stride { result ≡ stride_of (length ticks.now) }
+    ensures small { result ≤ 1 }
+{
+    if ticks.len() == 1 { 0 } else { 1 }
+}
+
+/// The tick that an operand has for an answer's row.
+fn tick_for(ticks: &[Option<i64>], stride: usize, row: usize) -> Option<i64>
+    requires stride { stride ≡ stride_of (length ticks.now) }
     requires there { operand_row (length ticks.now) row < length ticks.now }
     ensures tick { result ≡ tick_for ticks.now row }
 {
-    if ticks.len() == 1 {
-        ticks[0]
-    } else {
-        ticks[row]
-    }
+    ticks[row * stride]
 }
 
 /// Two optional ticks under the rule.
@@ -67,9 +72,12 @@ pub(crate) fn pair_ticks(
     ensures fit { IfOk result
         (λ ticks. list_all (is_tick_in (answer_values rule)) ticks.items ≡ true) }
 {
+    let (left_stride, right_stride) = (stride(left), stride(right));
     let mut ticks = Vec::with_capacity(alloc, rows)?;
     for row in 0..rows {
-        ticks.push(pair_slot(rule, tick_for(left, row), tick_for(right, row)))?;
+        let left_tick = tick_for(left, left_stride, row);
+        let right_tick = tick_for(right, right_stride, row);
+        ticks.push(pair_slot(rule, left_tick, right_tick))?;
     }
     Ok(ticks)
 }

@@ -3,10 +3,6 @@ ghost use Rattle.std.specs.Prelude.{◌≡◌, true};
 ghost use Rattle.col_model.specs.Column.{is_built_type};
 
 use super::*;
-use col_series::Series;
-use col_types::{
-    BinOp, DataType, Kind, OpName, PlSmallStr, PolarsError, PolarsResult, TimeUnit, TimeZone,
-};
 use std::alloc::Global;
 use std::test::Fail;
 
@@ -136,13 +132,30 @@ fn rests_have_the_sign_of_the_divisor(rt: HostRuntime) -> Result<(), Fail> {
 fn columns_of_one_type_meet(rt: HostRuntime) -> Result<(), Fail> {
     let alloc = rt.alloc();
     let millis = DataType::Duration(MILLIS);
-    let (seven, three) = (column(alloc, &millis, &[Some(7)])?, column(alloc, &millis, &[Some(3)])?);
+    let (seven, three) = (
+        column(alloc, &millis, &[Some(7)])?,
+        column(alloc, &millis, &[Some(3)])?,
+    );
     for (answer, wanted) in [
         (first(seven.add_to(alloc, &three)), 10),
         (first(seven.subtract(alloc, &three)), 4),
         (first(seven.remainder(alloc, &three)), 1),
-        (first(seven.try_clone(alloc)?.try_add_owned(alloc, three.try_clone(alloc)?)), 10),
-        (first(seven.try_clone(alloc)?.try_sub_owned(alloc, three.try_clone(alloc)?)), 4),
+        (
+            first(
+                seven
+                    .try_clone(alloc)?
+                    .try_add_owned(alloc, three.try_clone(alloc)?),
+            ),
+            10,
+        ),
+        (
+            first(
+                seven
+                    .try_clone(alloc)?
+                    .try_sub_owned(alloc, three.try_clone(alloc)?),
+            ),
+            4,
+        ),
     ] {
         assert_eq!(rt; answer, Ok(Some(wanted)));
     }

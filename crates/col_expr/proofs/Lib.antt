@@ -13,3 +13,4 @@ pub mod FoldTurns
 pub mod FoldLemmas
 pub mod FoldWaiting
 pub mod FoldNodes
+pub mod PlanNodeLemmas

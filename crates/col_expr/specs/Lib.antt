@@ -10,6 +10,7 @@ pub mod Found
 pub mod Laws
 pub mod Plan
 pub mod FoundPlan
+pub mod PlanNode
 pub mod PlanLaws
 pub mod Folded
 pub mod FoldLaws

@@ -6,7 +6,7 @@ use Rattle.std.specs.Ordering.{nat_cmp}
 use Rattle.std.specs.Map.{lookup}
 use Rattle.std.specs.BTreeMap.{is_at, insert_entry}
 use Rattle.col_types.specs.declared.data_type.DataType.{DataType, Boolean}
-use Rattle.col_model.specs.Arithmetic.{Interval, is_within, WordType, word_bits}
+use Rattle.col_model.specs.Arithmetic.{Interval, is_inside, WordType, word_bits}
 use Rattle.col_model.specs.Value.{Value}
 use Rattle.col_model.specs.Column.{Column, physical_word, values_of, is_value_in}
 use Rattle.col_model.specs.Formula.{Formula, on_intervals, interval_of}
@@ -97,10 +97,6 @@ image_of inputs plan numbers (Shift operand periods) =
     bound_of inputs plan (below numbers) operand
 
 -- ---- the rule of a covered node
-
--- whether one interval lies in another
-abbrev pub is_inside : Interval → Interval → Bool
-is_inside range inner = is_within range inner.low && is_within range inner.high
 
 -- whether the interval is there and lies in the other
 abbrev pub is_image_inside : Interval → Option Interval → Bool

@@ -35,9 +35,10 @@ abbrev pub operands_at : List Column → Tree → ℕ → Option Value × Option
 operands_at inputs (Input index) row = (None, None)
 operands_at inputs (Cast operand target options) row =
     (slot_at inputs operand row, slot_at inputs operand row)
-operands_at inputs (Binary op left right) row =
-    (slot_at inputs left (operand_row (row_count inputs left) row),
-    slot_at inputs right (operand_row (row_count inputs right) row))
+operands_at inputs (Binary op left right) row = (
+  slot_at inputs left (operand_row (row_count inputs left) row),
+  slot_at inputs right (operand_row (row_count inputs right) row),
+)
 operands_at inputs (ScalarRight operand op k) row =
     (slot_at inputs operand row, slot_at inputs operand row)
 operands_at inputs (ScalarLeft k op operand) row =

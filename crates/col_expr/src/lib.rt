@@ -10,26 +10,26 @@ mod fold_laws;
 mod fold_tests;
 mod folded;
 mod inputs;
-mod interval;
 mod laws;
 mod node;
+mod node_image;
 mod operations;
+mod part;
 mod plan;
 mod steps;
-mod waiting;
 #[cfg(test)]
 mod tests;
+mod waiting;
 
+pub use check::check_plan;
 pub use col_series::{CastOptions, DataType, Series, TimeUnit, TimeZone};
 pub use col_types::{BinOp, ScalarOp};
-pub use check::check_plan;
 pub use error::{EvalError, ExprCause, ExprRefused};
 pub use evaluation::evaluate;
 pub use expr::Expr;
 pub use fold_laws::{folding_changes_no_answer, known_folds};
 pub use folded::evaluate_folded;
 pub use inputs::Inputs;
-pub use interval::Interval;
 pub use laws::{
     defined_up_to_the_first_refusal, one_tree_fits, refusals_in_postfix_order,
     refusals_name_their_node,

@@ -1,11 +1,12 @@
 // Plans of intervals for the nodes of an expression.
-ghost use Rattle.std.specs.Prelude.{◌≡◌, ◌≤ℤ◌, [], Ok, ℤ};
+ghost use Rattle.std.specs.Prelude.{◌≡◌, ◌≤ℤ◌, [], Ok, ℤ, IfSome};
 ghost use Rattle.std.specs.Option.{option_map};
 ghost use Rattle.col_types.specs.PolarsError.{Becomes};
 ghost use Rattle.col_model.specs.Arithmetic.{Interval as Range};
-ghost use Rattle.col_expr.specs.Plan.{Plan, interval_in, covering, ends_before};
+ghost use Rattle.col_model.specs.IntervalRoom.{IsOrdered};
+ghost use Rattle.col_expr.specs.Plan.{interval_in, covering, ends_before};
 
-use crate::interval::Interval;
+use col_model::Interval;
 use col_types::{PolarsError, PolarsResult};
 use std::alloc::Global;
 use std::collections::BTreeMap;
@@ -20,11 +21,15 @@ pub struct RangePlan {
 
 impl Model for RangePlan {
     ghost use Rattle.std.specs.Prelude.{ℕ, List};
+    ghost use Rattle.std.specs.List.{All};
+    ghost use Rattle.col_expr.specs.PlanNode.{IsCoverOrdered};
     ghost use Rattle.col_model.specs.Arithmetic.{Interval as Range};
 
     ghost Value = { List (ℕ × Range) };
 
     ghost view = { λ a. a.intervals.entries };
+
+    ghost invariant = { λ a. All IsCoverOrdered a.intervals.entries };
 }
 
 impl RangePlan {
@@ -48,6 +53,7 @@ impl RangePlan {
     }
 
     pub(crate) fn put(&mut self, node: u32, interval: Interval) -> PolarsResult<()>
+        requires ordered { IsOrdered interval }
         ensures covered { Becomes result self.old self.new (Ok (covering self.old node interval)) }
     {
         match self.intervals.insert(node, interval) {
@@ -70,6 +76,7 @@ impl RangePlan {
     /// The interval of a node, none where the node isn't covered.
     pub fn interval(&self, node: u32) -> Option<Interval>
         ensures interval { result ≡ interval_in self.now node }
+        ensures ordered { IfSome result IsOrdered }
     {
         match self.intervals.get(&node) {
             Some(interval) => Some(*interval),

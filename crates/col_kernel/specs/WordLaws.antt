@@ -1,5 +1,7 @@
 -- The laws of the trait `Word`, proved for the signed and the unsigned word of each width.
-use Rattle.std.specs.Prelude.{◌≡◌, ◌+◌, ◌-◌, ◌*◌, ◌/◌, ◌%◌, ◌^◌, ◌<◌, ◌≤◌, ◌+ℤ◌, ◌-ℤ◌, ◌*ℤ◌, ◌&&◌, ℕ, ℤ, zero, suc, pos, negsuc, neg_ℤ, true, cond, FitsSigned, unsigned_abs}
+use Rattle.std.specs.Prelude.{◌≡◌, ◌+◌, ◌-◌, ◌*◌, ◌/◌, ◌%◌, ◌^◌, ◌<◌, ◌≤◌, ◌+ℤ◌, ◌-ℤ◌, ◌*ℤ◌, ◌&&◌}
+use Rattle.std.specs.Prelude.{ℕ, ℤ, zero, suc, pos, negsuc, neg_ℤ, true, cond, FitsSigned}
+use Rattle.std.specs.Prelude.{unsigned_abs}
 use Rattle.std.specs.Int.{Width, w8, w16, w32, w64, w128, FitsUnsignedBits, cast_signed}
 use Rattle.std.specs.Ordering.{int_cmp, nat_cmp}
 use Rattle.std.proofs.Common.{lt_of_lt_of_le, refl, ap, sym, ◌∙◌, ◌⊎◌, arith, inl, inr, mod-lt}
@@ -15,7 +17,8 @@ use mir.Val.{bits, hbits}
 use Rattle.num_traits.specs.Laws.{bit_len, wrap_unsigned}
 use Rattle.num_traits.specs.Ints.{signed-wrap, signed-wrap_fits, unsigned-wrap, unsigned-wrap_fits}
 use Rattle.col_kernel.specs.Congruence.{IsCongruent}
-use Rattle.col_model.specs.Arithmetic.{WordType, Signed, Unsigned, Interval, is_within, word_bits, word_values, wrapped_value}
+use Rattle.col_model.specs.Arithmetic.{WordType, Signed, Unsigned, Interval, is_within, word_bits}
+use Rattle.col_model.specs.Arithmetic.{word_values, wrapped_value}
 
 -- ---- the range of a word, in std's words
 
@@ -28,6 +31,7 @@ IsHeld (Unsigned w) x = FitsUnsignedBits (bit_len w) x
 abbrev balanced : ℕ → Interval
 balanced m = record { low = negsuc m; high = pos m }
 
+-- a signed word's integers are such
 signed_values : (w : Width) → word_values (Signed w) ≡ balanced (2 ^ hbits w - 1)
 signed_values w8 = refl
 signed_values w16 = refl
@@ -35,15 +39,18 @@ signed_values w32 = refl
 signed_values w64 = refl
 signed_values w128 = refl
 
+-- the tests of the ranges, by the magnitude or by the number itself
 is_within-balanced : (m : ℕ) (x : ℤ) → is_within (balanced m) x ≡ leb (mag x) m
 is_within-balanced m (pos n) = refl
 is_within-balanced m (negsuc n) = and-true (leb n m)
 
+-- the same at a signed word
 is_within-signed : (w : Width) (x : ℤ) → is_within (word_values (Signed w)) x ≡ leb (mag x)
     (2 ^ hbits w - 1)
 is_within-signed w x = ap (λ (range : Interval). is_within range x) (signed_values w)
     ∙ is_within-balanced (2 ^ hbits w - 1) x
 
+-- the same at an unsigned word
 is_within-unsigned : (w : Width) (n : ℕ)
     → is_within (word_values (Unsigned w)) (pos n) ≡ leb n (2 ^ bit_len w - 1)
 is_within-unsigned w n = ap (λ b. b && leb n (2 ^ bit_len w - 1)) (leb-zero n)
@@ -84,10 +91,12 @@ unfolding wrapped_value
 held-wrapped (Signed w) x = signed-wrap_fits w x
 held-wrapped (Unsigned w) x = unsigned-wrap_fits (bit_len w) x
 
+-- a multiple of a negative number
 neg-mul : (a m : ℕ) → neg_ℤ (pos a) *ℤ pos m ≡ neg_ℤ (pos (a * m))
 neg-mul zero m = omega (arith, ints)
 neg-mul (suc a) m = refl
 
+-- an integer and what it wraps to without a sign
 congruent_unsigned : (k : ℕ) (x : ℤ) → IsCongruent (2 ^ k) x (wrap_unsigned k x)
 congruent_unsigned k (pos n) =
     let split : n / 2 ^ k * 2 ^ k + n % 2 ^ k ≡ n = div-add-mod' n (2 ^ k) in (
@@ -132,6 +141,7 @@ cast_signed-cases w r below = elim (cases_lt r (2 ^ hbits w)) [
         ap (λ b. cond b (pos r) (negsuc (2 ^ bits w - suc r))) (le-ltb r (2 ^ hbits w) high)
         ∙ ap (λ (k : ℕ). negsuc (2 ^ k - suc r)) (width w)
 
+-- a congruence stays one where a modulus is taken off
 congruent_cast : (m : ℕ) (x y z : ℤ) → IsCongruent m x y → (z ≡ y) ⊎ (z ≡ y -ℤ pos m)
     → IsCongruent m x z
 congruent_cast m x y z given (inl e) = (given.0, e ∙ given.1)
@@ -161,10 +171,12 @@ wrapped_is_congruent (Unsigned w) x = congruent_unsigned (bit_len w) x
 
 -- ---- which words an `i128` holds
 
+-- a signed word up to 64 bits is inside that of 128
 narrow_signed_fits : (w : Width) → hbits w ≤ 127 → (x : ℤ) → FitsSigned w x → FitsSigned w128 x
 narrow_signed_fits w h x f =
     record { sfits = lt_of_lt_of_le f.sfits (pow-le-pow_right {n = 2} (omega arith) h) }
 
+-- and so is an unsigned one
 narrow_unsigned_fits : (w : Width) → bit_len w ≤ 127 → (x : ℤ) → FitsUnsignedBits (bit_len w) x
     → FitsSigned w128 x
 narrow_unsigned_fits w h (pos n) f = record

@@ -4,8 +4,7 @@ ghost use Rattle.std.specs.Prelude.{◌≡◌, ◌^◌, ◌≤◌, pos, unwrap_o
 ghost use Rattle.col_types.specs.DataType.{max_digits};
 ghost use Rattle.col_model.specs.Arithmetic.{fitting_decimal, rescaled_value};
 
-/// The greatest number of digits, which a missing precision stands for.
-const MAX_DIGITS: usize = 38;
+use col_types::MAX_DIGITS;
 
 /// A power of ten.
 fn power_of_ten(exponent: usize) -> i128

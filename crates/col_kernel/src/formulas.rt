@@ -3,7 +3,8 @@
 ghost use Rattle.std.specs.Prelude.{◌≡◌, ℤ, Option};
 ghost use Rattle.std.specs.Option.{option_map};
 ghost use Rattle.col_model.specs.Arithmetic.{word_values};
-ghost use Rattle.col_model.specs.Formula.{value_of, X, Y, Sum, Difference, Product, FloorDiv, TruncDiv, FloorMod, Fit, Wrap};
+ghost use Rattle.col_model.specs.Formula.{value_of, X, Y, Sum, Difference, Product, FloorDiv};
+ghost use Rattle.col_model.specs.Formula.{TruncDiv, FloorMod, Fit, Wrap};
 ghost use Rattle.col_kernel.specs.Kernels.{wrapped_abs, wrapped_neg};
 
 use crate::Word;

@@ -2,9 +2,11 @@
 
 ghost use Rattle.std.specs.Prelude.{◌≡◌, IfOk, length};
 ghost use Rattle.col_model.specs.Arithmetic.{word_values};
-ghost use Rattle.col_model.specs.Formula.{value_of, X, Y, Sum, Difference, Product, FloorDiv, TruncDiv, FloorMod, Fit, Wrap};
+ghost use Rattle.col_model.specs.Formula.{value_of, X, Y, Sum, Difference, Product, FloorDiv};
+ghost use Rattle.col_model.specs.Formula.{TruncDiv, FloorMod, Fit, Wrap};
 ghost use Rattle.col_kernel.specs.Kernels.{wrapped_abs, wrapped_neg};
-ghost use Rattle.col_kernel.specs.Slots.{map_slots, scalar_slots, slots_of, slots_scalar, zip_slots};
+ghost use Rattle.col_kernel.specs.Slots.{map_slots, scalar_slots, slots_of, slots_scalar};
+ghost use Rattle.col_kernel.specs.Slots.{zip_slots};
 
 use crate::Word;
 use crate::formulas::{

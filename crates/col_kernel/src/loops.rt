@@ -1,7 +1,8 @@
 //! The loops of the kernels: each makes its answer in one allocation and reads each slot once.
 
 ghost use Rattle.std.specs.Prelude.{◌≡◌, IfOk, length};
-ghost use Rattle.col_kernel.specs.Slots.{map_slots, scalar_slots, slots_of, slots_scalar, zip_slots};
+ghost use Rattle.col_kernel.specs.Slots.{map_slots, scalar_slots, slots_of, slots_scalar};
+ghost use Rattle.col_kernel.specs.Slots.{zip_slots};
 
 use crate::Word;
 use crate::formulas::{PairFormula, SlotFormula};

@@ -4,7 +4,9 @@ ghost use Rattle.std.specs.Prelude.{◌≡◌, ◌^◌, ◌+ℤ◌, ◌-ℤ◌, 
 ghost use Rattle.std.specs.Int.{w128};
 ghost use Rattle.std.specs.Option.{option_and_then, option_map};
 ghost use Rattle.std.specs.Ordering.{int_cmp};
-ghost use Rattle.col_model.specs.Arithmetic.{WordType, Signed, floor_div, floor_mod, fitting_value, is_within, trunc_div, word_bits, word_values, wrapped_value};
+ghost use Rattle.col_model.specs.Arithmetic.{WordType, Signed, floor_div, floor_mod, fitting_value};
+ghost use Rattle.col_model.specs.Arithmetic.{is_within, trunc_div, word_bits, word_values};
+ghost use Rattle.col_model.specs.Arithmetic.{wrapped_value};
 ghost use Rattle.col_model.specs.Formula.{divided};
 ghost use Rattle.col_kernel.specs.Congruence.{IsCongruent};
 

@@ -5,7 +5,9 @@ ghost use Rattle.std.specs.Prelude.{pos, FitsSigned, ◌<◌, ◌^◌};
 ghost use Rattle.std.specs.Int.{w8, w16, w32, w64, w128};
 ghost use Rattle.std.proofs.Common.{lit≤};
 ghost use Rattle.col_model.specs.Arithmetic.{Signed, Unsigned, wrapped_value};
-ghost use Rattle.col_kernel.specs.WordLaws.{reading_in_range, reading_wraps, signed_equal, signed_in_i128, signed_order, unsigned_equal, unsigned_in_i128, unsigned_order, wrapped_is_congruent};
+ghost use Rattle.col_kernel.specs.WordLaws.{reading_in_range, reading_wraps, signed_equal};
+ghost use Rattle.col_kernel.specs.WordLaws.{signed_in_i128, signed_order, unsigned_equal};
+ghost use Rattle.col_kernel.specs.WordLaws.{unsigned_in_i128, unsigned_order, wrapped_is_congruent};
 
 use crate::Word;
 

@@ -88,13 +88,13 @@ pub moments_back : ComesBack moments clock_unit
 moments_back (u, y) (v, z) before after finer h =
     cast_moments v u z y (Some after)
     ∙ back_value (λ t. value_of (datetime_in_unit u v X) t t) (λ t. value_of (datetime_in_unit v u X) t t)
-      (λ t s. moment_back u v t s finer) before after (sym (cast_moments u v y z (Some before)) ∙ h)
+    (λ t s. moment_back u v t s finer) before after (sym (cast_moments u v y z (Some before)) ∙ h)
 
 pub lengths_back : ComesBack Duration (λ unit. unit)
 lengths_back u v before after finer h =
     cast_lengths v u (Some after)
     ∙ back_value (λ t. value_of (duration_in_unit u v X) t t) (λ t. value_of (duration_in_unit v u X) t t)
-      (λ t s. length_back u v t s finer) before after (sym (cast_lengths u v (Some before)) ∙ h)
+    (λ t s. length_back u v t s finer) before after (sym (cast_lengths u v (Some before)) ∙ h)
 
 -- ---- chains
 
@@ -134,7 +134,7 @@ one_cast dtype unit goes trans two from to (next ∷ stops) slot steps =
 two_moments : (u v w : TimeUnit) (x y z : Option (List ℕ)) (slot : Option Value)
     → moment_slot v w (moment_slot u v slot) ≡ moment_slot u w slot
     → slot_cast (moments (v, y)) (moments (w, z)) (slot_cast (moments (u, x)) (moments (v, y)) slot)
-      ≡ slot_cast (moments (u, x)) (moments (w, z)) slot
+    ≡ slot_cast (moments (u, x)) (moments (w, z)) slot
 two_moments u v w x y z slot one =
     ap (slot_cast (moments (v, y)) (moments (w, z))) (cast_moments u v x y slot)
     ∙ cast_moments v w y z (moment_slot u v slot) ∙ one ∙ sym (cast_moments u w x z slot)
@@ -142,7 +142,7 @@ two_moments u v w x y z slot one =
 two_lengths : (u v w : TimeUnit) (slot : Option Value)
     → length_slot v w (length_slot u v slot) ≡ length_slot u w slot
     → slot_cast (Duration v) (Duration w) (slot_cast (Duration u) (Duration v) slot)
-      ≡ slot_cast (Duration u) (Duration w) slot
+    ≡ slot_cast (Duration u) (Duration w) slot
 two_lengths u v w slot one =
     ap (slot_cast (Duration v) (Duration w)) (cast_lengths u v slot)
     ∙ cast_lengths v w (length_slot u v slot) ∙ one ∙ sym (cast_lengths u w slot)

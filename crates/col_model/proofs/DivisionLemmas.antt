@@ -1,14 +1,14 @@
 -- Quotients and rests: what they mean, and where they lie.
-use Rattle.std.specs.Prelude.{◌≡◌, ◌≢◌, ◌+◌, ◌-◌, ◌*◌, ◌/◌, ◌%◌, ◌≤◌, ◌<◌, ◌+ℤ◌, ◌-ℤ◌, ◌*ℤ◌, ◌≤ℤ◌, ◌<ℤ◌, ℕ, ℤ, zero, suc, pos, negsuc, neg_ℤ, Bool, true, false}
-use Rattle.std.proofs.Common.{refl, ap, sym, subst, ◌∙◌, arith, inl, inr, ◌⊎◌}
+use Rattle.std.specs.Prelude.{◌≡◌, ◌≢◌, ◌+◌, ◌*◌, ◌/◌, ◌≤◌, ◌<◌, ◌+ℤ◌, ◌-ℤ◌, ◌*ℤ◌, ◌≤ℤ◌, ◌<ℤ◌, ℕ, ℤ, zero, suc, pos, negsuc, neg_ℤ, false}
+use Rattle.std.proofs.Common.{refl, ap, sym, ◌∙◌, arith, inl, inr, ◌⊎◌}
 use Rattle.std.proofs.lemmas.Int.{ints, by_lt_z}
 use Rattle.std.proofs.Math.IntN.{suc_ℤ, +ℤ_one, suc_ℤ-*ℤ, *ℤ_comm}
 use Rattle.std.proofs.lemmas.Bool.{false≢true, le-leb}
 use Rattle.std.proofs.lemmas.Nat.{div-add-mod', mod_below}
 use borrow.Author.Differences.{up, down, product_is}
 use native.Mathlib.Nat.{div-zero, le_trans, div-mul-le_self, le-div_iff_mul-le, mul-le-mul_right, mul-le-mul_left}
-use Rattle.col_model.specs.Arithmetic.{Interval, is_within, floor_by, trunc_by, floor_div, trunc_div, floor_mod}
-use Rattle.col_model.specs.IntervalLaws.{DoesNotPass, IsFloorQuotient, IsShortOf, DividesDown, DivisionsRoundDown, TruncatesDivisions, DividesByPositive}
+use Rattle.col_model.specs.Arithmetic.{is_within, floor_by, trunc_by, floor_div, trunc_div, floor_mod}
+use Rattle.col_model.specs.IntervalLaws.{IsFloorQuotient, IsShortOf, DivisionsRoundDown, TruncatesDivisions, DividesByPositive}
 
 -- ---- order
 
@@ -203,14 +203,16 @@ pub floor_rest : (x divisor : ℤ) → divisor ≢ pos 0 → IsShortOf divisor (
 floor_rest x (pos zero) h = absurd (h refl)
 floor_rest x (pos (suc k)) h =
     let q = floor_by x (suc k) in
-    let same : pos (suc k) *ℤ q ≡ q *ℤ pos (suc k) = *ℤ_comm (pos (suc k)) q in
-    (omega (arith, ints, same, floor_low x (suc k) (omega arith)),
-    omega (arith, ints, same, floor_high x (suc k) (omega arith)))
+    let same : pos (suc k) *ℤ q ≡ q *ℤ pos (suc k) = *ℤ_comm (pos (suc k)) q in (
+      omega (arith, ints, same, floor_low x (suc k) (omega arith)),
+      omega (arith, ints, same, floor_high x (suc k) (omega arith)),
+    )
 floor_rest x (negsuc k) h =
     let q = floor_by (neg_ℤ x) (suc k) in
-    let same : negsuc k *ℤ q ≡ neg_ℤ (q *ℤ pos (suc k)) = *ℤ_comm (negsuc k) q ∙ times_down q k in
-    (omega (arith, ints, same, floor_high (neg_ℤ x) (suc k) (omega arith)),
-    omega (arith, ints, same, floor_low (neg_ℤ x) (suc k) (omega arith)))
+    let same : negsuc k *ℤ q ≡ neg_ℤ (q *ℤ pos (suc k)) = *ℤ_comm (negsuc k) q ∙ times_down q k in (
+      omega (arith, ints, same, floor_high (neg_ℤ x) (suc k) (omega arith)),
+      omega (arith, ints, same, floor_low (neg_ℤ x) (suc k) (omega arith)),
+    )
 
 back_whole : (x y q : ℤ) → (q *ℤ y) +ℤ (x -ℤ (y *ℤ q)) ≡ x
 back_whole x y q = rw (*ℤ_comm y q) (omega (arith, ints))

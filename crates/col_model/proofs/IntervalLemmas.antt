@@ -1,14 +1,14 @@
 -- The interval of a formula holds its exact value.
-use Rattle.std.proofs.Common.{◌≡◌, ℕ, ℤ, zero, suc, pos, negsuc, ◌≤◌, ◌+ℤ◌, ◌-ℤ◌, ◌*ℤ◌, ◌≤ℤ◌, ◌<ℤ◌, Bool, true, false, ◌&&◌, Option, Some, None, if◌then◌else◌, ◌⊎◌, inl, inr, refl, sym, ap, ◌∙◌, subst, arith}
-use Rattle.std.specs.Prelude.{◌≢◌, int_le, int_lt}
+use Rattle.std.proofs.Common.{◌≡◌, ℤ, zero, suc, pos, negsuc, ◌+ℤ◌, ◌-ℤ◌, ◌*ℤ◌, ◌≤ℤ◌, ◌<ℤ◌, Bool, true, false, ◌&&◌, Option, Some, None, if◌then◌else◌, ◌⊎◌, inl, inr, refl, sym, ap, ◌∙◌, subst, arith}
+use Rattle.std.specs.Prelude.{◌≢◌, int_lt}
 use Rattle.std.specs.Option.{option_and_then, option_map}
 use Rattle.std.specs.Int.{int_min, int_max}
-use Rattle.std.proofs.lemmas.Bool.{and_from, and_parts, false≢true, le-leb}
+use Rattle.std.proofs.lemmas.Bool.{false≢true}
 use Rattle.std.proofs.lemmas.Int.{ints, clamps}
 use Rattle.std.proofs.Math.IntN.{*ℤ_comm}
-use Rattle.col_model.specs.Arithmetic.{Interval, is_within, WordType, word_values, fitting_value, wrapped_value, floor_by, trunc_by, floor_div, trunc_div, floor_mod, unless_zero}
-use Rattle.col_model.specs.Formula.{Formula, X, Y, Constant, Sum, Difference, Product, FloorBy, TruncBy, FloorDiv, TruncDiv, FloorMod, Fit, Wrap, NonZero, on_both, divided, truth_of, value_of, exact_value_of, on_intervals, spanned, at_ends, between_ends, quotient_interval, rest_interval, inside_interval, interval_of}
-use Rattle.col_model.specs.IntervalLaws.{IsShortOf, IsExactIn, IntervalsHold}
+use Rattle.col_model.specs.Arithmetic.{Interval, is_within, word_values, fitting_value, wrapped_value, floor_by, trunc_by, floor_div, trunc_div, floor_mod, unless_zero}
+use Rattle.col_model.specs.Formula.{Formula, X, Y, Constant, Sum, Difference, Product, FloorBy, TruncBy, FloorDiv, TruncDiv, FloorMod, Fit, Wrap, NonZero, truth_of, value_of, exact_value_of, on_intervals, spanned, at_ends, quotient_interval, rest_interval, inside_interval, interval_of}
+use Rattle.col_model.specs.IntervalLaws.{IsShortOf, IntervalsHold}
 use Rattle.col_model.proofs.DivisionLemmas.{Between, floor_mono, trunc_mono, floor_between, trunc_between, product_between, floor_turn, trunc_turn, floor_rest}
 use Rattle.col_model.proofs.WithinLemmas.{IsWithin, is_within-true, within_from, trans, inside_from}
 use Rattle.col_model.proofs.WordLemmas.{wrapped_value-within}
@@ -33,6 +33,7 @@ le_greatest a b v (inr h) = omega (arith, ints, clamps)
 
 -- what lies between two values, each of which lies between two corners
 pub cornered : (a b c d u w v : ℤ) → Between a b u → Between c d w → Between u w v → IsWithin (spanned a b c d) v
+unfolding spanned
 cornered a b c d u w v first second (inl (l, h)) = record {
   low = least_le _ _ _ (inl (trans _ _ _ (between_ends-low a b u first) l));
   high = le_greatest _ _ _ (inr (trans _ _ _ h (between_ends-high c d w second)));
@@ -126,9 +127,11 @@ some_inside range (Some a) r h = by_test (is_within range a.low) (is_within rang
         → (if low && high then Some a else None) ≡ Some r
         → (Some a ≡ Some r) × (is_within range r.low ≡ true) × (is_within range r.high ≡ true)
     by_test true true e f h =
-        let same : a ≡ r = cc in
-        (h, ap (λ (i : Interval). is_within range i.low) (sym same) ∙ e,
-        ap (λ (i : Interval). is_within range i.high) (sym same) ∙ f)
+        let same : a ≡ r = cc in (
+          h,
+          ap (λ (i : Interval). is_within range i.low) (sym same) ∙ e,
+          ap (λ (i : Interval). is_within range i.high) (sym same) ∙ f,
+        )
     by_test true false e f h = cc
     by_test false true e f h = cc
     by_test false false e f h = cc
@@ -152,15 +155,19 @@ some_rest p q r = by_test (is_within q (pos 0)) (int_lt (pos 0) q.low) refl refl
         → (is_within q (pos 0) ≡ false) × ((y : ℤ) (rest : ℤ) → IsWithin q y → IsShortOf y rest → IsWithin r rest)
     by_test true above e f h = cc
     by_test false true e f h =
-        let same : record { low = pos 0; high = q.high -ℤ pos 1 } ≡ r = cc in
-        (e, λ y rest v short.
-        let P : Interval → Type 0 = λ i. IsWithin i rest in
-        subst P same (rest_within q y rest true f e v (not_zero q y e v) short))
+        let same : record { low = pos 0; high = q.high -ℤ pos 1 } ≡ r = cc in (
+          e,
+          λ y rest v short.
+              let P : Interval → Type 0 = λ i. IsWithin i rest in
+              subst P same (rest_within q y rest true f e v (not_zero q y e v) short),
+        )
     by_test false false e f h =
-        let same : record { low = q.low +ℤ pos 1; high = pos 0 } ≡ r = cc in
-        (e, λ y rest v short.
-        let P : Interval → Type 0 = λ i. IsWithin i rest in
-        subst P same (rest_within q y rest false f e v (not_zero q y e v) short))
+        let same : record { low = q.low +ℤ pos 1; high = pos 0 } ≡ r = cc in (
+          e,
+          λ y rest v short.
+              let P : Interval → Type 0 = λ i. IsWithin i rest in
+              subst P same (rest_within q y rest false f e v (not_zero q y e v) short),
+        )
 
 -- ---- the induction
 

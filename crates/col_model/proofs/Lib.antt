@@ -1,7 +1,10 @@
 pub mod ChainLemmas
+pub mod TableLemmas
 pub mod UnitLemmas
 pub mod WrapLemmas
 pub mod WithinLemmas
 pub mod DivisionLemmas
 pub mod WordLemmas
 pub mod IntervalLemmas
+pub mod RoomLemmas
+pub mod TickIntervalLemmas

@@ -1,5 +1,5 @@
 -- Integers that lie in an interval, by its two ends.
-use Rattle.std.proofs.Common.{◌≡◌, ℤ, ◌≤ℤ◌, Bool, true, arith}
+use Rattle.std.proofs.Common.{◌≡◌, ℤ, ◌≤ℤ◌, true, arith}
 use Rattle.std.specs.Prelude.{int_le}
 use Rattle.std.proofs.lemmas.Bool.{and_from, and_parts}
 use Rattle.std.proofs.lemmas.Int.{ints}

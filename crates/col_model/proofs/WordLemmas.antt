@@ -1,6 +1,6 @@
 -- What a word keeps of an integer.
-use Rattle.std.specs.Prelude.{◌≡◌, ◌+◌, ◌-◌, ◌*◌, ◌/◌, ◌%◌, ◌^◌, ◌<◌, ◌≤◌, ◌+ℤ◌, ◌*ℤ◌, ◌≤ℤ◌, ℕ, ℤ, suc, pos, negsuc, neg_ℤ, true, FitsSigned, unsigned_abs}
-use Rattle.std.specs.Int.{Width, w8, w16, w32, w64, w128, cast_signed, FitsUnsignedBits}
+use Rattle.std.specs.Prelude.{◌≡◌, ◌-◌, ◌/◌, ◌^◌, ◌<◌, ◌+ℤ◌, ◌*ℤ◌, ◌≤ℤ◌, ℕ, ℤ, suc, pos, negsuc, neg_ℤ, true, unsigned_abs}
+use Rattle.std.specs.Int.{Width, w8, w16, w32, w64, w128, cast_signed}
 use Rattle.std.proofs.Common.{refl, ap, sym, subst, ◌∙◌, ◌⊎◌, arith, inl, inr, mod-lt}
 use Rattle.std.proofs.lemmas.Bool.{cases_lt}
 use Rattle.std.proofs.lemmas.Int.{ints}
@@ -10,9 +10,9 @@ use Rattle.num_traits.specs.Laws.{bit_len, wrap_signed, wrap_unsigned}
 use Rattle.num_traits.specs.Ints.{signed-wrap, signed-wrap_fits, signed-bounds, unsigned-wrap, unsigned-wrap_fits, unsigned-bounds}
 use mir.Val.{bits, hbits}
 use mir.ValLaws.{to_z_pos, to_z-neg}
-use Rattle.col_model.specs.Arithmetic.{is_within, WordType, Signed, Unsigned, word_bits, word_values, wrapped_value}
+use Rattle.col_model.specs.Arithmetic.{is_within, WordType, Signed, Unsigned, word_values, wrapped_value}
 use Rattle.col_model.specs.IntervalLaws.{IsKeptOf}
-use Rattle.col_model.proofs.WithinLemmas.{IsWithin, is_within-true, within_from}
+use Rattle.col_model.proofs.WithinLemmas.{is_within-true, within_from}
 
 -- the two ends of a signed word
 least : (w : Width) → neg_ℤ (pos (2 ^ (bit_len w - 1))) ≡ negsuc (2 ^ hbits w - 1)
@@ -106,14 +106,16 @@ more_congruent kept rest x blocks d e f = rw (suc_ℤ-*ℤ blocks (pos d)) (omeg
 signed_kept : (w : Width) (x : ℤ) → IsRead w (unsigned_abs (wrap_unsigned (bit_len w) x))
     → (blocks : ℤ) × (wrap_signed w x +ℤ (blocks *ℤ pos (2 ^ bit_len w)) ≡ x)
 signed_kept w x (inl e) =
-    let k = bit_len w in
-    (blocks_of k x,
-    ap (λ z. z +ℤ (blocks_of k x *ℤ pos (2 ^ k))) (e ∙ rest_natural k x) ∙ rest_congruent k x)
+    let k = bit_len w in (
+      blocks_of k x,
+      ap (λ z. z +ℤ (blocks_of k x *ℤ pos (2 ^ k))) (e ∙ rest_natural k x) ∙ rest_congruent k x,
+    )
 signed_kept w x (inr e) =
-    let k = bit_len w in
-    (suc_ℤ (blocks_of k x),
-    more_congruent (wrap_signed w x) (wrap_unsigned k x) x (blocks_of k x) (2 ^ k)
-    (e ∙ rest_natural k x) (rest_congruent k x))
+    let k = bit_len w in (
+      suc_ℤ (blocks_of k x),
+      more_congruent (wrap_signed w x) (wrap_unsigned k x) x (blocks_of k x) (2 ^ k)
+          (e ∙ rest_natural k x) (rest_congruent k x),
+    )
 
 pub word_keeps : (word : WordType) (x : ℤ) → IsKeptOf word x (wrapped_value word x)
 unfolding wrapped_value

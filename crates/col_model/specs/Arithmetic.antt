@@ -1,5 +1,7 @@
 -- Arithmetic on integers without bound, and what a word of fixed width keeps of it.
-use Rattle.std.specs.Prelude.{zero, suc, ◌^◌, ◌-◌, ◌/◌, ◌-ℤ◌, ◌*ℤ◌, ℕ, ℤ, pos, negsuc, neg_ℤ, Bool, ◌&&◌, Option, Some, None, int_div, int_le, nat_lt, unwrap_or, if◌then◌else◌}
+use Rattle.std.specs.Prelude.{zero, suc, ◌^◌, ◌-◌, ◌/◌, ◌-ℤ◌, ◌*ℤ◌, ℕ, ℤ, pos, negsuc, neg_ℤ, Bool}
+use Rattle.std.specs.Prelude.{◌&&◌, Option, Some, None, int_div, int_le, nat_lt, unwrap_or}
+use Rattle.std.specs.Prelude.{if◌then◌else◌}
 use Rattle.std.specs.Int.{Width}
 use Rattle.num_traits.specs.Laws.{bit_len, wrap_signed, wrap_unsigned}
 use Rattle.col_types.specs.DataType.{max_digits}
@@ -15,6 +17,10 @@ pub record Interval : Type 0 where
 abbrev pub is_within : Interval → ℤ → Bool
 is_within range x = int_le range.low x && int_le x range.high
 
+-- whether both ends of an interval lie in another
+abbrev pub is_inside : Interval → Interval → Bool
+is_inside range inner = is_within range inner.low && is_within range inner.high
+
 -- a word: signed or unsigned, and its width in bits
 pub data WordType : Type 0 where
   Signed : Width → WordType
@@ -27,7 +33,8 @@ word_bits (Unsigned w) = bit_len w
 
 -- the integers that the word holds
 abbrev pub word_values : WordType → Interval
-word_values (Signed w) = record { low = neg_ℤ (pos (2 ^ (bit_len w - 1))); high = pos (2 ^ (bit_len w - 1) - 1) }
+word_values (Signed w) =
+    record { low = neg_ℤ (pos (2 ^ (bit_len w - 1))); high = pos (2 ^ (bit_len w - 1) - 1) }
 word_values (Unsigned w) = record { low = pos 0; high = pos (2 ^ bit_len w - 1) }
 
 -- the integer, or null where the interval doesn't have it

@@ -1,5 +1,6 @@
 -- How the rows of two operands meet, and how a shift moves rows.
-use Rattle.std.specs.Prelude.{ℕ, ℤ, pos, negsuc, ◌-ℤ◌, List, map, Option, Some, None, nat_eq, nat_lt, if◌then◌else◌}
+use Rattle.std.specs.Prelude.{ℕ, ℤ, pos, negsuc, ◌-ℤ◌, List, map, Option, Some, None, nat_eq}
+use Rattle.std.specs.Prelude.{nat_lt, if◌then◌else◌}
 use Rattle.std.specs.List.{range_with_len}
 use Rattle.col_model.specs.Value.{Value}
 
@@ -10,7 +11,9 @@ column_slots slot rows = map slot (range_with_len 0 rows)
 -- the common number of rows, or the other's where one is 1
 abbrev pub broadcast_length : ℕ → ℕ → Option ℕ
 broadcast_length left right =
-    if nat_eq left right then Some left else if nat_eq left 1 then Some right else if nat_eq right 1 then Some left else None
+    if nat_eq left right then Some left
+    else if nat_eq left 1 then Some right
+    else if nat_eq right 1 then Some left else None
 
 -- the row of an operand that stands in an answer's row: one row stands for all
 abbrev pub operand_row : ℕ → ℕ → ℕ

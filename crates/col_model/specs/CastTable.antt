@@ -1,13 +1,17 @@
--- The cast table: for each pair of types the formula of a slot, and whether the order of slots is kept.
-use Rattle.std.specs.Prelude.{ℕ, Bool, true, false, pos, Option, Some, None, unwrap_or, if◌then◌else◌}
+-- The cast table: for each pair of types the formula of a slot, and whether it keeps the order.
+use Rattle.std.specs.Prelude.{Bool, true, false, pos, Option, Some, None, unwrap_or}
+use Rattle.std.specs.Prelude.{if◌then◌else◌}
+use Rattle.std.specs.Option.{option_or}
 use Rattle.std.specs.Int.{w32}
 use Rattle.col_types.specs.TimeUnit.{nanos_per_tick, ticks_per_day}
 use Rattle.col_types.specs.DataType.{same_type}
 use Rattle.col_types.specs.declared.time_unit.TimeUnit.{TimeUnit}
 use Rattle.col_types.specs.declared.time_unit.TimeUnit.TheVariants.{Nanoseconds}
-use Rattle.col_types.specs.declared.data_type.DataType.{DataType, Date, Datetime, Duration, Time, Decimal}
+use Rattle.col_types.specs.declared.data_type.DataType.{DataType, Date, Datetime, Duration, Time}
+use Rattle.col_types.specs.declared.data_type.DataType.{Decimal}
 use Rattle.col_types.specs.declared.cast_options.CastOptions.{CastOptions}
-use Rattle.col_types.specs.declared.cast_options.CastOptions.TheVariants.{Strict, NonStrict, Overflowing}
+use Rattle.col_types.specs.declared.cast_options.CastOptions.TheVariants.{Strict, NonStrict}
+use Rattle.col_types.specs.declared.cast_options.CastOptions.TheVariants.{Overflowing}
 use Rattle.col_model.specs.Arithmetic.{WordType, Signed, word_values}
 use Rattle.col_model.specs.Formula.{Formula, X, Constant, FloorBy, FloorMod, Fit, Wrap}
 use Rattle.col_model.specs.UnitChange.{times, datetime_in_unit, duration_in_unit, day_in_unit}
@@ -19,21 +23,17 @@ pub record CastRule : Type 0 where
 
 -- ---- the target
 
--- the first number, or the second where there is no first
-abbrev pub number_or : Option ℕ → Option ℕ → Option ℕ
-number_or (Some n) other = Some n
-number_or None other = other
-
--- the target with what it leaves open taken from the operand's type: a decimal's precision and scale
--- from a decimal, and from another type no precision and no digits behind the point
+-- the target with what it leaves open taken from the operand's type: a decimal's precision and
+-- scale from a decimal, and from another type no precision and no digits behind the point
 abbrev pub resolved_target : DataType → DataType → DataType
-resolved_target (Decimal p s) (Decimal q t) = Decimal (number_or q p) (number_or t s)
+resolved_target (Decimal p s) (Decimal q t) = Decimal (option_or q p) (option_or t s)
 resolved_target from (Decimal q t) = Decimal q (Some (unwrap_or t 0))
 resolved_target from target = target
 
 -- ---- the rules
 
--- a value in a narrower word: null where the word doesn't hold it, or, where the cast may overflow, wrapped
+-- a value in a narrower word: null where the word doesn't hold it, or wrapped where the cast may
+-- overflow
 abbrev pub narrowed : CastOptions → WordType → Formula → Formula
 narrowed Strict word value = Fit (word_values word) value
 narrowed NonStrict word value = Fit (word_values word) value
@@ -51,16 +51,19 @@ time_of unit = times (nanos_per_tick unit) (FloorMod X (Constant (pos (ticks_per
 abbrev pub rising : Formula → Option CastRule
 rising formula = Some (record { formula = formula; monotone = true })
 
--- the rule for a pair of types that differ, or none; an option plays a part from moments to dates alone
+-- the rule for a pair of types that differ, or none; an option plays a part from moments to dates
+-- alone
 abbrev pub pair_rule : DataType → DataType → CastOptions → Option CastRule
 pair_rule Date (Datetime unit _) options = rising (day_in_unit unit X)
 pair_rule (Datetime from _) (Datetime to _) options = rising (datetime_in_unit from to X)
 pair_rule (Datetime unit _) Date options = rising (day_of options unit)
-pair_rule (Datetime unit _) Time options = Some (record { formula = time_of unit; monotone = false })
+pair_rule (Datetime unit _) Time options =
+    Some (record { formula = time_of unit; monotone = false })
 pair_rule (Duration from) (Duration to) options = rising (duration_in_unit from to X)
 pair_rule Time (Duration unit) options = rising (duration_in_unit Nanoseconds unit X)
 pair_rule _ _ options = None
 
 -- the rule from a type to a target that leaves nothing open, or none: the same type keeps each slot
 abbrev pub cast_rule : DataType → DataType → CastOptions → Option CastRule
-cast_rule from target options = if same_type from target then rising X else pair_rule from target options
+cast_rule from target options =
+    if same_type from target then rising X else pair_rule from target options

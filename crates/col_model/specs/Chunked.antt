@@ -1,5 +1,5 @@
--- A column that lies in chunks: what is stored together is told beside the column and never inside it,
--- so that an equation of columns says nothing of chunks.
+-- A column that lies in chunks: what is stored together is told beside the column and never
+-- inside it, so that an equation of columns says nothing of chunks.
 use Rattle.std.specs.Prelude.{ℕ, List, [], ◌∷◌, length, map}
 use Rattle.col_model.specs.Column.{Column}
 

@@ -1,11 +1,14 @@
 -- A column as contracts see it: a name, a type, slots, and the claim on their order.
-use Rattle.std.specs.Prelude.{◌≡◌, ◌<◌, ◌^◌, ◌-◌, ◌&&◌, ℕ, pos, Bool, true, false, List, length, Option, Some, None}
+use Rattle.std.specs.Prelude.{◌≡◌, ◌<◌, ◌^◌, ◌-◌, ◌&&◌, ℕ, pos, Bool, true, false, List, length}
+use Rattle.std.specs.Prelude.{Option, Some, None}
 use Rattle.std.specs.List.{list_all}
 use Rattle.std.specs.Option.{option_map}
 use Rattle.std.specs.Int.{w8, w16, w32, w64, w128}
 use Rattle.col_types.specs.TimeUnit.{nanos_per_day}
 use Rattle.col_types.specs.DataType.{is_built, is_column_type, physical_leaf}
-use Rattle.col_types.specs.declared.data_type.DataType.{DataType, Int8, Int16, Int32, Int64, Int128, UInt8, UInt16, UInt32, UInt64, Boolean, Time}
+use Rattle.col_types.specs.declared.data_type.DataType.{DataType, Int8, Int16, Int32, Int64, Int128}
+use Rattle.col_types.specs.declared.data_type.DataType.{UInt8, UInt16, UInt32, UInt64, Boolean}
+use Rattle.col_types.specs.declared.data_type.DataType.{Time}
 use Rattle.col_types.specs.declared.is_sorted.IsSorted.{IsSorted}
 use Rattle.col_model.specs.Arithmetic.{Interval, is_within, WordType, Signed, Unsigned, word_values}
 use Rattle.col_model.specs.Value.{Value, Flat, Whole}
@@ -31,7 +34,7 @@ integer_word UInt32 = Some (Unsigned w32)
 integer_word UInt64 = Some (Unsigned w64)
 integer_word _ = None
 
--- the word in which a column of the type keeps its integers: that of the integer type that stores it
+-- the word in which a column of the type keeps its integers: that of the type that stores it
 abbrev pub physical_word : DataType → Option WordType
 physical_word dtype = integer_word (physical_leaf dtype)
 

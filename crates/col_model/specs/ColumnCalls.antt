@@ -1,5 +1,7 @@
 -- What the calls of a column answer, want of memory aside.
-use Rattle.std.specs.Prelude.{ℕ, ◌+◌, ◌^◌, ℤ, Bool, true, false, ◌&&◌, ◌||◌, not, List, [], ◌∷◌, length, map, take, nat_lt, Option, Some, None, is_some, is_none, slice_index_or, Result, Ok, Err, if◌then◌else◌}
+use Rattle.std.specs.Prelude.{ℕ, ◌+◌, ◌^◌, ℤ, Bool, true, false, ◌&&◌, ◌||◌, not, List, [], ◌∷◌}
+use Rattle.std.specs.Prelude.{length, map, take, nat_lt, Option, Some, None, is_some, is_none}
+use Rattle.std.specs.Prelude.{slice_index_or, Result, Ok, Err, if◌then◌else◌}
 use Rattle.std.specs.List.{list_any, position_from}
 use Rattle.col_types.specs.PolarsError.{seen_by}
 use Rattle.col_types.specs.DataType.{kind_of, is_built, is_bad_target}
@@ -64,21 +66,26 @@ cast_slot (Some rule) slot = slot_by rule.formula slot
 -- the first row, from this one on, whose valid slot becomes null
 abbrev pub first_lost : (Option Value → Option Value) → ℕ → List (Option Value) → Option ℕ
 first_lost f row [] = None
-first_lost f row (slot ∷ slots) = if is_some slot && is_none (f slot) then Some row else first_lost f (row + 1) slots
+first_lost f row (slot ∷ slots) =
+    if is_some slot && is_none (f slot) then Some row else first_lost f (row + 1) slots
 
 -- the refusal of a strict cast
 abbrev pub strict_refusal : CastOptions → Option ℕ → Option PolarsError
 strict_refusal Strict (Some row) = Some (errors.Strict row)
 strict_refusal _ lost = None
 
--- why a cast to a target that isn't bad is refused: a pair outside the table with a valid slot, then a strict cast that loses one
-abbrev pub pair_refusal : DataType → DataType → CastOptions → Option CastRule → List (Option Value) → Option PolarsError
+-- why a cast to a target that isn't bad is refused: a pair outside the table with a valid slot,
+-- then a strict cast that loses one
+abbrev pub pair_refusal : DataType → DataType → CastOptions → Option CastRule →
+    List (Option Value) → Option PolarsError
 pair_refusal from target options None slots =
     if list_any is_some slots then Some (errors.CastPair (kind_of from) (kind_of target)) else None
-pair_refusal from target options (Some rule) slots = strict_refusal options (first_lost (cast_slot (Some rule)) 0 slots)
+pair_refusal from target options (Some rule) slots =
+    strict_refusal options (first_lost (cast_slot (Some rule)) 0 slots)
 
 -- why a cast is refused: a bad target comes first
-abbrev pub cast_refusal : DataType → DataType → CastOptions → Option CastRule → List (Option Value) → Option PolarsError
+abbrev pub cast_refusal : DataType → DataType → CastOptions → Option CastRule →
+    List (Option Value) → Option PolarsError
 cast_refusal from target options rule slots =
     if is_bad_target target then Some (errors.BadType (kind_of target))
     else pair_refusal from target options rule slots
@@ -87,8 +94,8 @@ cast_refusal from target options rule slots =
 abbrev pub is_built_target : DataType → Bool
 is_built_target target = is_built target || is_bad_target target
 
--- whether a rule that doesn't wrap keeps the order of the slots: it never decreases, and makes null of
--- no valid slot
+-- whether a rule that doesn't wrap keeps the order of the slots: it never decreases, and makes
+-- null of no valid slot
 abbrev pub keeps_order : Option CastRule → List (Option Value) → Bool
 keeps_order None slots = false
 keeps_order (Some rule) slots = rule.monotone && is_none (first_lost (slot_by rule.formula) 0 slots)
@@ -98,10 +105,11 @@ abbrev pub kept_flag : Bool → IsSorted → IsSorted
 kept_flag true flag = flag
 kept_flag false flag = Not
 
--- the sorted flag of a cast: kept where the cast neither makes null of a valid slot nor wraps one, which
--- is where the rule that doesn't wrap loses none
+-- the sorted flag of a cast: kept where the cast neither makes null of a valid slot nor wraps one,
+-- which is where the rule that doesn't wrap loses none
 abbrev pub cast_flag : DataType → DataType → List (Option Value) → IsSorted → IsSorted
-cast_flag from target slots flag = kept_flag (keeps_order (cast_rule from target NonStrict) slots) flag
+cast_flag from target slots flag =
+    kept_flag (keeps_order (cast_rule from target NonStrict) slots) flag
 
 -- the column that a cast gives to a target that leaves nothing open, where it isn't refused
 abbrev pub cast_column : Column → DataType → CastOptions → Column
@@ -111,7 +119,8 @@ cast_column column target options = record column {
   flag = cast_flag column.dtype target column.slots column.flag;
 }
 
--- the column in another type, or why it is refused; what the target leaves open is taken from the column
+-- the column in another type, or why it is refused; what the target leaves open is taken from the
+-- column
 abbrev pub cast_of : Column → DataType → CastOptions → Result Column PolarsError
 cast_of column target options =
     let settled = resolved_target column.dtype target in

@@ -1,9 +1,12 @@
--- The formulas of the tables as data, and what each gives: its value, its exact value, its interval.
-use Rattle.std.specs.Prelude.{ℕ, zero, suc, ℤ, pos, negsuc, ◌+ℤ◌, ◌-ℤ◌, ◌*ℤ◌, ◌&&◌, Option, Some, None, if◌then◌else◌, int_lt}
+-- The formulas of the tables as data, and what each gives: value, exact value, interval.
+use Rattle.std.specs.Prelude.{ℕ, zero, suc, ℤ, pos, negsuc, ◌+ℤ◌, ◌-ℤ◌, ◌*ℤ◌, ◌&&◌, Option, Some}
+use Rattle.std.specs.Prelude.{None, if◌then◌else◌, int_lt}
 use Rattle.std.specs.Option.{option_and_then, option_map}
 use Rattle.std.specs.Int.{int_min, int_max}
 use Rattle.col_model.specs.Value.{Value, on_slot, on_slots}
-use Rattle.col_model.specs.Arithmetic.{Interval, is_within, WordType, word_values, fitting_value, wrapped_value, floor_by, trunc_by, floor_div, trunc_div, floor_mod, unless_zero}
+use Rattle.col_model.specs.Arithmetic.{Interval, is_within, is_inside, WordType, word_values, fitting_value}
+use Rattle.col_model.specs.Arithmetic.{wrapped_value, floor_by, trunc_by, floor_div, trunc_div}
+use Rattle.col_model.specs.Arithmetic.{floor_mod, unless_zero}
 
 -- a formula in the integers x and y of one or two slots
 pub data Formula : Type 0 where
@@ -68,14 +71,20 @@ abbrev pub exact_value_of : Formula → ℤ → ℤ → Option ℤ
 exact_value_of X x y = Some x
 exact_value_of Y x y = Some y
 exact_value_of (Constant k) x y = Some k
-exact_value_of (Sum f g) x y = on_both (λ v w. Some (v +ℤ w)) (exact_value_of f x y) (exact_value_of g x y)
-exact_value_of (Difference f g) x y = on_both (λ v w. Some (v -ℤ w)) (exact_value_of f x y) (exact_value_of g x y)
-exact_value_of (Product f g) x y = on_both (λ v w. Some (v *ℤ w)) (exact_value_of f x y) (exact_value_of g x y)
+exact_value_of (Sum f g) x y =
+    on_both (λ v w. Some (v +ℤ w)) (exact_value_of f x y) (exact_value_of g x y)
+exact_value_of (Difference f g) x y =
+    on_both (λ v w. Some (v -ℤ w)) (exact_value_of f x y) (exact_value_of g x y)
+exact_value_of (Product f g) x y =
+    on_both (λ v w. Some (v *ℤ w)) (exact_value_of f x y) (exact_value_of g x y)
 exact_value_of (FloorBy f k) x y = option_map (λ v. floor_by v k) (exact_value_of f x y)
 exact_value_of (TruncBy f k) x y = option_map (λ v. trunc_by v k) (exact_value_of f x y)
-exact_value_of (FloorDiv f g) x y = on_both (divided floor_div) (exact_value_of f x y) (exact_value_of g x y)
-exact_value_of (TruncDiv f g) x y = on_both (divided trunc_div) (exact_value_of f x y) (exact_value_of g x y)
-exact_value_of (FloorMod f g) x y = on_both (divided floor_mod) (exact_value_of f x y) (exact_value_of g x y)
+exact_value_of (FloorDiv f g) x y =
+    on_both (divided floor_div) (exact_value_of f x y) (exact_value_of g x y)
+exact_value_of (TruncDiv f g) x y =
+    on_both (divided trunc_div) (exact_value_of f x y) (exact_value_of g x y)
+exact_value_of (FloorMod f g) x y =
+    on_both (divided floor_mod) (exact_value_of f x y) (exact_value_of g x y)
 exact_value_of (Fit range f) x y = exact_value_of f x y
 exact_value_of (Wrap word f) x y = exact_value_of f x y
 exact_value_of (NonZero f) x y = option_map truth_of (exact_value_of f x y)
@@ -83,14 +92,16 @@ exact_value_of (NonZero f) x y = option_map truth_of (exact_value_of f x y)
 -- ---- intervals
 
 -- a function of two intervals, none where one of them is
-abbrev pub on_intervals : (Interval → Interval → Option Interval) → Option Interval → Option Interval → Option Interval
+abbrev pub on_intervals : (Interval → Interval → Option Interval) → Option Interval →
+    Option Interval → Option Interval
 on_intervals f None q = None
 on_intervals f (Some p) None = None
 on_intervals f (Some p) (Some q) = f p q
 
 -- from the least to the greatest of four integers
-abbrev pub spanned : ℤ → ℤ → ℤ → ℤ → Interval
-spanned a b c d = record { low = int_min (int_min a b) (int_min c d); high = int_max (int_max a b) (int_max c d) }
+unfoldable pub spanned : ℤ → ℤ → ℤ → ℤ → Interval
+spanned a b c d =
+    record { low = int_min (int_min a b) (int_min c d); high = int_max (int_max a b) (int_max c d) }
 
 -- what a function gives at the four pairs of end points
 abbrev pub at_ends : (ℤ → ℤ → ℤ) → Interval → Interval → Interval
@@ -113,21 +124,31 @@ rest_interval p q =
 
 -- the interval, none where it isn't inside the other
 abbrev pub inside_interval : Interval → Interval → Option Interval
-inside_interval range p = if is_within range p.low && is_within range p.high then Some p else None
+inside_interval range p = if is_inside range p then Some p else None
 
--- where the values of a formula lie, none where a fit could fail, a wrap could change its value or a divisor could be 0
+-- where the values of a formula lie, none where a fit could fail, a wrap could change its value or
+-- a divisor could be 0
 abbrev pub interval_of : Formula → Interval → Interval → Option Interval
 interval_of X a b = Some a
 interval_of Y a b = Some b
 interval_of (Constant k) a b = Some (record { low = k; high = k })
-interval_of (Sum f g) a b = on_intervals (λ p q. Some (record { low = p.low +ℤ q.low; high = p.high +ℤ q.high })) (interval_of f a b) (interval_of g a b)
-interval_of (Difference f g) a b = on_intervals (λ p q. Some (record { low = p.low -ℤ q.high; high = p.high -ℤ q.low })) (interval_of f a b) (interval_of g a b)
-interval_of (Product f g) a b = on_intervals (λ p q. Some (at_ends ◌*ℤ◌ p q)) (interval_of f a b) (interval_of g a b)
+interval_of (Sum f g) a b =
+    on_intervals (λ p q. Some (record { low = p.low +ℤ q.low; high = p.high +ℤ q.high }))
+    (interval_of f a b) (interval_of g a b)
+interval_of (Difference f g) a b =
+    on_intervals (λ p q. Some (record { low = p.low -ℤ q.high; high = p.high -ℤ q.low }))
+    (interval_of f a b) (interval_of g a b)
+interval_of (Product f g) a b =
+    on_intervals (λ p q. Some (at_ends ◌*ℤ◌ p q)) (interval_of f a b) (interval_of g a b)
 interval_of (FloorBy f k) a b = option_map (between_ends (λ v. floor_by v k)) (interval_of f a b)
 interval_of (TruncBy f k) a b = option_map (between_ends (λ v. trunc_by v k)) (interval_of f a b)
-interval_of (FloorDiv f g) a b = on_intervals (quotient_interval floor_div) (interval_of f a b) (interval_of g a b)
-interval_of (TruncDiv f g) a b = on_intervals (quotient_interval trunc_div) (interval_of f a b) (interval_of g a b)
+interval_of (FloorDiv f g) a b =
+    on_intervals (quotient_interval floor_div) (interval_of f a b) (interval_of g a b)
+interval_of (TruncDiv f g) a b =
+    on_intervals (quotient_interval trunc_div) (interval_of f a b) (interval_of g a b)
 interval_of (FloorMod f g) a b = on_intervals rest_interval (interval_of f a b) (interval_of g a b)
 interval_of (Fit range f) a b = option_and_then (inside_interval range) (interval_of f a b)
-interval_of (Wrap word f) a b = option_and_then (inside_interval (word_values word)) (interval_of f a b)
-interval_of (NonZero f) a b = option_map (λ p. record { low = pos 0; high = pos 1 }) (interval_of f a b)
+interval_of (Wrap word f) a b =
+    option_and_then (inside_interval (word_values word)) (interval_of f a b)
+interval_of (NonZero f) a b =
+    option_map (λ p. record { low = pos 0; high = pos 1 }) (interval_of f a b)

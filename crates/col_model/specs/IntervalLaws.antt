@@ -1,6 +1,9 @@
 -- What divisions and wrapped words mean, and that a formula's interval holds its exact value.
-use Rattle.std.specs.Prelude.{◌≡◌, ◌≢◌, ◌+ℤ◌, ◌*ℤ◌, ◌≤ℤ◌, ◌<ℤ◌, ◌^◌, ℕ, ℤ, pos, negsuc, neg_ℤ, true, Some}
-use Rattle.col_model.specs.Arithmetic.{Interval, is_within, WordType, word_bits, word_values, wrapped_value, floor_by, trunc_by, floor_div, trunc_div, floor_mod}
+use Rattle.std.specs.Prelude.{◌≡◌, ◌≢◌, ◌+ℤ◌, ◌*ℤ◌, ◌≤ℤ◌, ◌<ℤ◌, ◌^◌, ℕ, ℤ, pos, negsuc, neg_ℤ, true}
+use Rattle.std.specs.Prelude.{Some}
+use Rattle.col_model.specs.Arithmetic.{Interval, is_within, WordType, word_bits, word_values}
+use Rattle.col_model.specs.Arithmetic.{floor_by, trunc_by, floor_div, trunc_div}
+use Rattle.col_model.specs.Arithmetic.{floor_mod}
 use Rattle.col_model.specs.Formula.{Formula, value_of, exact_value_of, interval_of}
 
 -- ---- divisions
@@ -44,7 +47,8 @@ pub record DividesByPositive (x : ℤ) (k : ℕ) : Type 0 where
 
 -- ---- words
 
--- what a word keeps of x: an integer of the word that differs from x by a multiple of 2 to its width
+-- what a word keeps of x: an integer of the word that differs from x by a multiple of 2 to its
+-- width
 pub record IsKeptOf (word : WordType) (x kept : ℤ) : Type 0 where
   pub in_word : is_within (word_values word) kept ≡ true
   pub multiple : ℤ
@@ -59,7 +63,8 @@ pub record IsExactIn (range : Interval) (formula : Formula) (x y : ℤ) : Type 0
   pub exact : exact_value_of formula x y ≡ Some value
   pub within : is_within range value ≡ true
 
--- where two integers lie in intervals for which a formula has one, its value is exact and lies in it
+-- where two integers lie in intervals for which a formula has one, its value is exact and lies in
+-- it
 abbrev pub IntervalsHold : Type 0
 IntervalsHold =
     (formula : Formula) (a b range : Interval) (x y : ℤ) → is_within a x ≡ true →

@@ -1,7 +1,9 @@
 -- Laws above the definitions: what they mean in other words, and values that are known by hand.
-use Rattle.std.specs.Prelude.{◌≡◌, ◌*ℤ◌, ◌+ℤ◌, ◌≤ℤ◌, ◌<ℤ◌, ℕ, ℤ, pos, neg_ℤ, negsuc, Option, Some, None}
+use Rattle.std.specs.Prelude.{◌≡◌, ◌*ℤ◌, ◌+ℤ◌, ◌≤ℤ◌, ◌<ℤ◌, ℕ, ℤ, pos, neg_ℤ, negsuc, Option, Some}
+use Rattle.std.specs.Prelude.{None}
 use Rattle.std.specs.Option.{option_map}
-use Rattle.col_types.specs.declared.time_unit.TimeUnit.TheVariants.{Nanoseconds, Microseconds, Milliseconds}
+use Rattle.col_types.specs.declared.time_unit.TimeUnit.TheVariants.{Nanoseconds, Microseconds}
+use Rattle.col_types.specs.declared.time_unit.TimeUnit.TheVariants.{Milliseconds}
 use Rattle.col_types.specs.declared.data_type.DataType.{DataType, Date, Datetime, Duration, Time}
 use Rattle.col_types.specs.declared.cast_options.CastOptions.{CastOptions}
 use Rattle.col_types.specs.declared.cast_options.CastOptions.TheVariants.{NonStrict, Overflowing}
@@ -28,20 +30,33 @@ value_at formula x = value_of formula x x
 
 -- a moment in a coarser unit rounds down, and one in a finer unit is null past 64 bits
 pub record KnownDatetimes : Type 0 where
-  pub before_zero : value_at (datetime_in_unit Nanoseconds Milliseconds X) (negsuc 0) ≡ Some (negsuc 0)
-  pub after_zero : value_at (datetime_in_unit Nanoseconds Milliseconds X) (pos 1999999) ≡ Some (pos 1)
-  pub least : value_at (datetime_in_unit Nanoseconds Microseconds X) (negsuc 9223372036854775807) ≡ Some (negsuc 9223372036854775)
-  pub greatest_that_fits : value_at (datetime_in_unit Milliseconds Nanoseconds X) (pos 9223372036854) ≡ Some (pos 9223372036854000000)
+  pub before_zero :
+      value_at (datetime_in_unit Nanoseconds Milliseconds X) (negsuc 0) ≡ Some (negsuc 0)
+  pub after_zero :
+      value_at (datetime_in_unit Nanoseconds Milliseconds X) (pos 1999999) ≡ Some (pos 1)
+  pub least :
+      value_at (datetime_in_unit Nanoseconds Microseconds X) (negsuc 9223372036854775807)
+      ≡ Some (negsuc 9223372036854775)
+  pub greatest_that_fits :
+      value_at (datetime_in_unit Milliseconds Nanoseconds X) (pos 9223372036854)
+      ≡ Some (pos 9223372036854000000)
   pub past_it : value_at (datetime_in_unit Milliseconds Nanoseconds X) (pos 9223372036855) ≡ None
-  pub greatest : value_at (datetime_in_unit Milliseconds Nanoseconds X) (pos 9223372036854775807) ≡ None
+  pub greatest :
+      value_at (datetime_in_unit Milliseconds Nanoseconds X) (pos 9223372036854775807) ≡ None
 
 -- a length of time in a coarser unit rounds towards zero
 pub record KnownDurations : Type 0 where
   pub below_zero : value_at (duration_in_unit Nanoseconds Milliseconds X) (negsuc 0) ≡ Some (pos 0)
-  pub above_zero : value_at (duration_in_unit Nanoseconds Milliseconds X) (pos 1999999) ≡ Some (pos 1)
-  pub least : value_at (duration_in_unit Nanoseconds Microseconds X) (negsuc 9223372036854775807) ≡ Some (negsuc 9223372036854774)
-  pub same : value_at (duration_in_unit Milliseconds Milliseconds X) (negsuc 9223372036854775807) ≡ Some (negsuc 9223372036854775807)
-  pub least_in_finer : value_at (duration_in_unit Milliseconds Microseconds X) (negsuc 9223372036854775807) ≡ None
+  pub above_zero :
+      value_at (duration_in_unit Nanoseconds Milliseconds X) (pos 1999999) ≡ Some (pos 1)
+  pub least :
+      value_at (duration_in_unit Nanoseconds Microseconds X) (negsuc 9223372036854775807)
+      ≡ Some (negsuc 9223372036854774)
+  pub same :
+      value_at (duration_in_unit Milliseconds Milliseconds X) (negsuc 9223372036854775807)
+      ≡ Some (negsuc 9223372036854775807)
+  pub least_in_finer :
+      value_at (duration_in_unit Milliseconds Microseconds X) (negsuc 9223372036854775807) ≡ None
 
 -- what a cast makes of an integer: none where there is no row, else its value or null
 abbrev pub cast_at : DataType → DataType → CastOptions → ℤ → Option (Option ℤ)
@@ -50,13 +65,22 @@ cast_at from to options x =
 
 -- days round down, times count from the day's beginning, and what has no room is null or wraps
 pub record KnownCasts : Type 0 where
-  pub day_before : cast_at (Datetime Milliseconds None) Date NonStrict (negsuc 0) ≡ Some (Some (negsuc 0))
-  pub day_past_word : cast_at (Datetime Milliseconds None) Date NonStrict (pos 9223372036854775807) ≡ Some None
-  pub day_wrapped : cast_at (Datetime Milliseconds None) Date Overflowing (pos 9223372036854775807) ≡ Some (Some (negsuc 622191232))
-  pub time_before : cast_at (Datetime Microseconds None) Time NonStrict (negsuc 0) ≡ Some (Some (pos 86399999999000))
-  pub last_midnight : cast_at Date (Datetime Microseconds None) NonStrict (pos 106751991) ≡ Some (Some (pos 9223372022400000000))
+  pub day_before :
+      cast_at (Datetime Milliseconds None) Date NonStrict (negsuc 0) ≡ Some (Some (negsuc 0))
+  pub day_past_word :
+      cast_at (Datetime Milliseconds None) Date NonStrict (pos 9223372036854775807) ≡ Some None
+  pub day_wrapped :
+      cast_at (Datetime Milliseconds None) Date Overflowing (pos 9223372036854775807)
+      ≡ Some (Some (negsuc 622191232))
+  pub time_before :
+      cast_at (Datetime Microseconds None) Time NonStrict (negsuc 0)
+      ≡ Some (Some (pos 86399999999000))
+  pub last_midnight :
+      cast_at Date (Datetime Microseconds None) NonStrict (pos 106751991)
+      ≡ Some (Some (pos 9223372022400000000))
   pub past_it : cast_at Date (Datetime Microseconds None) NonStrict (pos 106751992) ≡ Some None
-  pub time_as_length : cast_at Time (Duration Milliseconds) NonStrict (pos 1999999) ≡ Some (Some (pos 1))
+  pub time_as_length :
+      cast_at Time (Duration Milliseconds) NonStrict (pos 1999999) ≡ Some (Some (pos 1))
   pub unlisted : cast_at Date (Duration Milliseconds) NonStrict (pos 0) ≡ None
 
 -- what an operator makes of two integers: none where there is no row, else its value or null
@@ -64,13 +88,23 @@ abbrev pub joined_at : BinOp → DataType → DataType → ℤ → ℤ → Optio
 joined_at op left right x y =
     option_map (λ (rule : OperatorRule). value_of rule.formula x y) (listed_rule op left right)
 
--- a date with a length cuts it to milliseconds and rounds the sum down; the other order rounds the length down
+-- a date with a length cuts it to milliseconds and rounds the sum down; the other order rounds the
+-- length down
 pub record KnownJoins : Type 0 where
-  pub date_then_length : joined_at Add Date (Duration Nanoseconds) (pos 10) (negsuc 0) ≡ Some (Some (pos 10))
-  pub length_then_date : joined_at Add (Duration Nanoseconds) Date (negsuc 0) (pos 10) ≡ Some (Some (pos 9))
-  pub wrapped_then_null : joined_at Add Date (Duration Milliseconds) (pos 2147483647) (pos 9223372036854775807) ≡ Some None
-  pub coarser_first : joined_at Add (Datetime Nanoseconds None) (Duration Milliseconds) (pos 1999999) (pos 3) ≡ Some (Some (pos 4))
-  pub rest : joined_at Rem (Duration Milliseconds) (Duration Microseconds) (negsuc 6) (pos 3000) ≡ Some (Some (pos 2))
-  pub rest_of_none : joined_at Rem (Duration Milliseconds) (Duration Milliseconds) (pos 7) (pos 0) ≡ Some None
+  pub date_then_length :
+      joined_at Add Date (Duration Nanoseconds) (pos 10) (negsuc 0) ≡ Some (Some (pos 10))
+  pub length_then_date :
+      joined_at Add (Duration Nanoseconds) Date (negsuc 0) (pos 10) ≡ Some (Some (pos 9))
+  pub wrapped_then_null :
+      joined_at Add Date (Duration Milliseconds) (pos 2147483647) (pos 9223372036854775807)
+      ≡ Some None
+  pub coarser_first :
+      joined_at Add (Datetime Nanoseconds None) (Duration Milliseconds) (pos 1999999) (pos 3)
+      ≡ Some (Some (pos 4))
+  pub rest :
+      joined_at Rem (Duration Milliseconds) (Duration Microseconds) (negsuc 6) (pos 3000)
+      ≡ Some (Some (pos 2))
+  pub rest_of_none :
+      joined_at Rem (Duration Milliseconds) (Duration Milliseconds) (pos 7) (pos 0) ≡ Some None
   pub dates_apart : joined_at Sub Date Date (pos 1) (pos 2) ≡ Some (Some (negsuc 86399999))
   pub length_less_date : joined_at Sub (Duration Milliseconds) Date (pos 1) (pos 1) ≡ None

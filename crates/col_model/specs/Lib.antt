@@ -14,4 +14,8 @@ pub mod ColumnCalls
 pub mod OperatorCalls
 pub mod Laws
 pub mod UnitLaws
+pub mod TableLaws
+pub mod KnownWords
 pub mod IntervalLaws
+pub mod IntervalRoom
+pub mod RuleIntervals

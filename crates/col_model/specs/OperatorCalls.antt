@@ -1,5 +1,6 @@
 -- What operators, scalar forms, changes of unit and shifts of columns answer, want of memory aside.
-use Rattle.std.specs.Prelude.{ℕ, ℤ, length, map, Option, Some, None, slice_index_or, Result, Ok, Err, if◌then◌else◌}
+use Rattle.std.specs.Prelude.{ℕ, ℤ, length, map, Option, Some, None, slice_index_or, Result, Ok}
+use Rattle.std.specs.Prelude.{Err, if◌then◌else◌}
 use Rattle.std.specs.Option.{option_and_then}
 use Rattle.col_types.specs.declared.time_unit.TimeUnit.{TimeUnit}
 use Rattle.col_types.specs.declared.operator.BinOp.{BinOp}
@@ -15,7 +16,8 @@ use Rattle.col_model.specs.Formula.{slot_by, slots_by}
 use Rattle.col_model.specs.OperationNames.{name_of_op, name_of_scalar_op, unsupported}
 use Rattle.col_model.specs.Broadcast.{column_slots, broadcast_length, operand_row, row_before}
 use Rattle.col_model.specs.OperatorTable.{OperatorRule, operator_rule}
-use Rattle.col_model.specs.ScalarTable.{scalar_right_rule, scalar_left_rule, is_scalar_of, unit_change_rule}
+use Rattle.col_model.specs.ScalarTable.{scalar_right_rule, scalar_left_rule, is_scalar_of}
+use Rattle.col_model.specs.ScalarTable.{unit_change_rule}
 
 -- ---- slots
 
@@ -34,12 +36,15 @@ abbrev pub binary_column : Column → Column → ℕ → OperatorRule → Column
 binary_column left right rows rule = record {
   name = left.name;
   dtype = rule.dtype;
-  slots = column_slots (λ row. slots_by rule.formula (operand_slot left row) (operand_slot right row)) rows;
+  slots =
+      column_slots
+      (λ row. slots_by rule.formula (operand_slot left row) (operand_slot right row)) rows;
   flag = Not;
 }
 
 -- the column, where there are a number of rows and a rule; lengths are tested before the table
-abbrev pub binary_by : Column → Column → Option ℕ → Result OperatorRule PolarsError → Result Column PolarsError
+abbrev pub binary_by : Column → Column → Option ℕ → Result OperatorRule PolarsError →
+    Result Column PolarsError
 binary_by left right None rule = Err (errors.Lengths (length left.slots) (length right.slots))
 binary_by left right (Some rows) (Err refusal) = Err refusal
 binary_by left right (Some rows) (Ok rule) = Ok (binary_column left right rows rule)
@@ -47,22 +52,30 @@ binary_by left right (Some rows) (Ok rule) = Ok (binary_column left right rows r
 -- two columns joined by an operator, or why they are not
 abbrev pub binary_of : BinOp → Column → Column → Result Column PolarsError
 binary_of op left right =
-    binary_by left right (broadcast_length (length left.slots) (length right.slots)) (operator_rule op left.dtype right.dtype)
+    binary_by left right (broadcast_length (length left.slots) (length right.slots))
+    (operator_rule op left.dtype right.dtype)
 
 -- ---- one column
 
 -- each slot of a column under a rule
 abbrev pub ruled_column : Column → OperatorRule → Column
-ruled_column column rule = record column { dtype = rule.dtype; slots = map (slot_by rule.formula) column.slots; flag = Not }
+ruled_column column rule =
+    record column {
+      dtype = rule.dtype;
+      slots = map (slot_by rule.formula) column.slots;
+      flag = Not;
+    }
 
 -- the column by a rule for its type and an integer; types are tested before the integer
 abbrev pub scalar_by : OpName → ℤ → Column → Option OperatorRule → Result Column PolarsError
 scalar_by op k column None = Err (unsupported op column.dtype column.dtype)
-scalar_by op k column (Some rule) = if is_scalar_of column.dtype k then Ok (ruled_column column rule) else Err (errors.Scalar k)
+scalar_by op k column (Some rule) =
+    if is_scalar_of column.dtype k then Ok (ruled_column column rule) else Err (errors.Scalar k)
 
 -- a column joined with an integer on its right, or why it is not
 abbrev pub scalar_right_of : Column → ScalarOp → ℤ → Result Column PolarsError
-scalar_right_of column op k = scalar_by (name_of_scalar_op op) k column (scalar_right_rule column.dtype op k)
+scalar_right_of column op k =
+    scalar_by (name_of_scalar_op op) k column (scalar_right_rule column.dtype op k)
 
 -- an integer joined with a column on its right, or why it is not
 abbrev pub scalar_left_of : ℤ → BinOp → Column → Result Column PolarsError
@@ -80,6 +93,9 @@ in_unit_of column unit = in_unit_by column (unit_change_rule column.dtype unit)
 -- the column with each slot so many rows further down; a row that none moves to is null
 abbrev pub shifted : Column → ℤ → Column
 shifted column periods = record column {
-  slots = column_slots (λ row. option_and_then (slot_in column) (row_before (length column.slots) periods row)) (length column.slots);
+  slots =
+      column_slots
+      (λ row. option_and_then (slot_in column) (row_before (length column.slots) periods row))
+      (length column.slots);
   flag = Not;
 }

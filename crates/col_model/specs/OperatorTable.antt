@@ -1,4 +1,5 @@
--- The operator table: for each operator and ordered pair of types the answer's type and the formula of a slot.
+-- The operator table: for each operator and ordered pair of types the answer's type and the
+-- formula of a slot.
 use Rattle.std.specs.Prelude.{Option, Some, None, Result, if◌then◌else◌}
 use Rattle.std.specs.Option.{ok_or}
 use Rattle.std.specs.Int.{w32, w64}
@@ -57,14 +58,18 @@ sum_rule _ _ = None
 
 -- differences; moments are apart only in one zone
 abbrev pub difference_rule : DataType → DataType → Option OperatorRule
-difference_rule Date Date = giving (Duration Milliseconds) (times (ticks_per_day Milliseconds) (Difference X Y))
+difference_rule Date Date =
+    giving (Duration Milliseconds) (times (ticks_per_day Milliseconds) (Difference X Y))
 difference_rule Time Time = giving (Duration Nanoseconds) (Difference X Y)
 difference_rule Date (Duration v) = giving Date (date_joined Difference v)
 difference_rule Date (Datetime v z) = giving (Duration v) (wrapping Difference (day_in_unit v X) Y)
 difference_rule (Datetime u y) Date = giving (Duration u) (wrapping Difference X (day_in_unit u Y))
 difference_rule (Datetime u y) (Datetime v z) =
     let w = coarser_unit u v in
-    if same_zone y z then giving (Duration w) (wrapping Difference (datetime_in_unit u w X) (datetime_in_unit v w Y)) else None
+    if same_zone y z
+    then giving (Duration w)
+    (wrapping Difference (datetime_in_unit u w X) (datetime_in_unit v w Y))
+    else None
 difference_rule (Datetime u y) (Duration v) =
     let w = coarser_unit u v in
     giving (Datetime w y) (wrapping Difference (datetime_in_unit u w X) (duration_in_unit v w Y))
@@ -91,4 +96,5 @@ listed_rule Rem left right = rest_rule left right
 
 -- the rule for an operator and two types, or the refusal
 abbrev pub operator_rule : BinOp → DataType → DataType → Result OperatorRule PolarsError
-operator_rule op left right = ok_or (listed_rule op left right) (unsupported (name_of_op op) left right)
+operator_rule op left right =
+    ok_or (listed_rule op left right) (unsupported (name_of_op op) left right)

@@ -2,7 +2,8 @@
 use Rattle.std.specs.Prelude.{ℤ, Bool, false, ◌||◌, Option, Some, None, if◌then◌else◌}
 use Rattle.std.specs.Option.{option_map, option_and_then}
 use Rattle.col_types.specs.DataType.{is_integer, is_temporal}
-use Rattle.col_types.specs.declared.data_type.DataType.{DataType, Int128, Datetime, Duration, Time, Decimal}
+use Rattle.col_types.specs.declared.data_type.DataType.{DataType, Int128, Datetime, Duration, Time}
+use Rattle.col_types.specs.declared.data_type.DataType.{Decimal}
 use Rattle.col_types.specs.declared.time_unit.TimeUnit.{TimeUnit}
 use Rattle.col_types.specs.declared.operator.BinOp.{BinOp}
 use Rattle.col_types.specs.declared.operator.BinOp.TheVariants as ops
@@ -10,7 +11,8 @@ use Rattle.col_types.specs.declared.operator.ScalarOp.{ScalarOp}
 use Rattle.col_types.specs.declared.operator.ScalarOp.TheVariants as scalar_ops
 use Rattle.col_model.specs.Arithmetic.{WordType, is_within, word_values}
 use Rattle.col_model.specs.Column.{physical_word, day_values}
-use Rattle.col_model.specs.Formula.{Formula, X, Constant, Sum, Difference, Product, FloorDiv, TruncDiv, FloorMod, Fit, Wrap}
+use Rattle.col_model.specs.Formula.{Formula, X, Constant, Sum, Difference, Product, FloorDiv}
+use Rattle.col_model.specs.Formula.{TruncDiv, FloorMod, Fit, Wrap}
 use Rattle.col_model.specs.UnitChange.{unit_change, wrapped_datetime_by, wrapped_duration_by}
 use Rattle.col_model.specs.OperatorTable.{OperatorRule, giving}
 
@@ -36,8 +38,8 @@ abbrev pub bounded : DataType → Formula → Formula
 bounded Time value = Fit day_values value
 bounded _ value = value
 
--- the type of the answer, none for a type that meets no integer: an integer or temporal type is kept, and
--- an unscaled decimal answers as the integer that it is
+-- the type of the answer, none for a type that meets no integer: an integer or temporal type is
+-- kept, and an unscaled decimal answers as the integer that it is
 abbrev pub scalar_dtype : DataType → Option DataType
 scalar_dtype (Decimal precision scale) = Some Int128
 scalar_dtype dtype = if is_integer dtype || is_temporal dtype then Some dtype else None
@@ -68,6 +70,8 @@ is_scalar_of dtype k = is_scalar_in (physical_word dtype) k
 
 -- the rule for a change to the unit, or none
 abbrev pub unit_change_rule : DataType → TimeUnit → Option OperatorRule
-unit_change_rule (Datetime from y) to = giving (Datetime to y) (wrapped_datetime_by (unit_change from to) X)
-unit_change_rule (Duration from) to = giving (Duration to) (wrapped_duration_by (unit_change from to) X)
+unit_change_rule (Datetime from y) to =
+    giving (Datetime to y) (wrapped_datetime_by (unit_change from to) X)
+unit_change_rule (Duration from) to =
+    giving (Duration to) (wrapped_duration_by (unit_change from to) X)
 unit_change_rule _ to = None

@@ -1,5 +1,6 @@
 -- The claim on order that a column keeps, and when it is true of a list of slots.
-use Rattle.std.specs.Prelude.{Bool, true, false, not, ◌&&◌, ◌||◌, List, [], ◌∷◌, Option, Some, None, is_some, is_none}
+use Rattle.std.specs.Prelude.{Bool, true, false, not, ◌&&◌, ◌||◌, List, [], ◌∷◌, Option, Some, None}
+use Rattle.std.specs.Prelude.{is_some, is_none}
 use Rattle.std.specs.List.{list_all}
 use Rattle.std.specs.Ordering.{int_cmp, nat_cmp, is_gt}
 use Rattle.std.specs.Cmp.Lexicographic.{slice_cmp}
@@ -14,9 +15,11 @@ leaf_le (Bytes x) (Bytes y) = not (is_gt (slice_cmp nat_cmp x y))
 leaf_le (Whole x) (Bytes y) = true
 leaf_le (Bytes x) (Whole y) = false
 
+-- whether two leaves are equal
 abbrev pub same_leaf : Leaf → Leaf → Bool
 same_leaf x y = leaf_le x y && leaf_le y x
 
+-- whether two lists of leaf slots are equal
 abbrev pub same_leaves : List (Option Leaf) → List (Option Leaf) → Bool
 same_leaves [] [] = true
 same_leaves [] (y ∷ ys) = false

@@ -11,8 +11,10 @@ use Rattle.col_model.specs.declared.ticks.UnitChange.TheVariants.{Finer, Same, C
 -- the factor between two units, and which of them is the finer
 abbrev pub unit_change : TimeUnit → TimeUnit → UnitChange
 unit_change from to =
-    if nat_lt (nanos_per_tick to) (nanos_per_tick from) then Finer (nanos_per_tick from / nanos_per_tick to)
-    else if nat_lt (nanos_per_tick from) (nanos_per_tick to) then Coarser (nanos_per_tick to / nanos_per_tick from)
+    if nat_lt (nanos_per_tick to) (nanos_per_tick from)
+    then Finer (nanos_per_tick from / nanos_per_tick to)
+    else if nat_lt (nanos_per_tick from) (nanos_per_tick to)
+    then Coarser (nanos_per_tick to / nanos_per_tick from)
     else Same
 
 -- a coarser unit's factor is not 0
@@ -41,9 +43,11 @@ duration_by (Finer factor) ticks = in_finer_unit factor ticks
 duration_by Same ticks = ticks
 duration_by (Coarser factor) ticks = TruncBy ticks factor
 
+-- a moment of one unit in another
 abbrev pub datetime_in_unit : TimeUnit → TimeUnit → Formula → Formula
 datetime_in_unit from to ticks = datetime_by (unit_change from to) ticks
 
+-- a length of time of one unit in another
 abbrev pub duration_in_unit : TimeUnit → TimeUnit → Formula → Formula
 duration_in_unit from to ticks = duration_by (unit_change from to) ticks
 

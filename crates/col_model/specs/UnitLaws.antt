@@ -12,13 +12,15 @@ use Rattle.col_model.specs.ColumnCalls.{cast_slot}
 abbrev pub slot_cast : DataType → DataType → Option Value → Option Value
 slot_cast from to slot = cast_slot (cast_rule from to NonStrict) slot
 
--- a unit with a zone or none, and the type of moments that it is
+-- a unit with a zone or none
 abbrev pub Clock : Type 0
 Clock = TimeUnit × Option (List ℕ)
 
+-- the unit
 abbrev pub clock_unit : Clock → TimeUnit
 clock_unit (unit, _) = unit
 
+-- the type of moments in that unit and zone
 abbrev pub moments : Clock → DataType
 moments (unit, name) = Datetime unit name
 
@@ -51,13 +53,16 @@ last_stop from [] = from
 last_stop from (to ∷ stops) = last_stop to stops
 
 -- whether each step of a chain goes so from one unit to the next
-abbrev pub each_step : {S : Type 0} → (S → TimeUnit) → (TimeUnit → TimeUnit → Bool) → S → List S → Bool
+abbrev pub each_step : {S : Type 0} → (S → TimeUnit) → (TimeUnit → TimeUnit → Bool) → S → List S →
+    Bool
 each_step unit goes from [] = true
 each_step unit goes from (to ∷ stops) = goes (unit from) (unit to) && each_step unit goes to stops
 
 -- a chain of one cast or more whose steps all go so is the cast from its first type to its last one
-abbrev pub IsOneCast : {S : Type 0} → (S → DataType) → (S → TimeUnit) → (TimeUnit → TimeUnit → Bool) → Type 0
+abbrev pub IsOneCast : {S : Type 0} → (S → DataType) → (S → TimeUnit) →
+    (TimeUnit → TimeUnit → Bool) → Type 0
 IsOneCast {S} dtype unit goes =
     (from to : S) (stops : List S) (slot : Option Value) →
     each_step unit goes from (to ∷ stops) ≡ true →
-    slot_through dtype from (to ∷ stops) slot ≡ slot_cast (dtype from) (dtype (last_stop to stops)) slot
+    slot_through dtype from (to ∷ stops) slot
+    ≡ slot_cast (dtype from) (dtype (last_stop to stops)) slot

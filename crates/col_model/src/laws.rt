@@ -3,11 +3,20 @@ ghost use Rattle.std.specs.Prelude.{ℕ, ℤ, ◌<◌};
 ghost use Rattle.col_model.specs.Laws.{RoundsDown, RoundsTowardsZero};
 ghost use Rattle.col_types.specs.declared.data_type.DataType.{Duration};
 ghost use Rattle.col_model.specs.Laws.{KnownDatetimes, KnownDurations, KnownCasts, KnownJoins};
-ghost use Rattle.col_model.specs.Arithmetic.{WordType, wrapped_value};
+ghost use Rattle.col_model.specs.Arithmetic.{WordType, word_values, wrapped_value, rescaled_value};
 ghost use Rattle.col_model.specs.IntervalLaws.{DivisionsRoundDown, TruncatesDivisions};
 ghost use Rattle.col_model.specs.IntervalLaws.{DividesByPositive, IsKeptOf, IntervalsHold};
 ghost use Rattle.col_model.specs.UnitLaws.{ComesBack, IsOneCast, is_no_coarser, is_no_finer};
 ghost use Rattle.col_model.specs.UnitLaws.{moments, clock_unit};
+ghost use Rattle.col_types.specs.declared.data_type.DataType.{DataType};
+ghost use Rattle.col_types.specs.declared.cast_options.CastOptions.{CastOptions};
+ghost use Rattle.col_types.specs.KnownValues.{GivesEach};
+ghost use Rattle.col_model.specs.Column.{physical_word};
+ghost use Rattle.col_model.specs.CastTable.{resolved_target};
+ghost use Rattle.col_model.specs.TableLaws.{StoresValues, SameTypeFirst, SettlesOnce};
+ghost use Rattle.col_model.specs.TableLaws.{known_words, known_targets};
+ghost use Rattle.col_model.specs.TableLaws.{KnownScalars, KnownUnitChanges};
+ghost use Rattle.col_model.specs.KnownWords.{KnownEnds, known_ranges, known_rescalings};
 
 /// The quotient by a positive number, rounded down, is the greatest whose multiple isn't above.
 pub fn floor_rounds_down()
@@ -52,6 +61,45 @@ pub fn unit_casts_compose()
     ensures finer_lengths { IsOneCast Duration (λ unit. unit) is_no_coarser }
     ensures coarser_moments { IsOneCast moments clock_unit is_no_finer }
     ensures coarser_lengths { IsOneCast Duration (λ unit. unit) is_no_finer }
+{}
+
+/// A type has a word exactly where an integer type stores it, and the word holds its values.
+pub fn words_hold_values()
+    ensures stored { (dtype : DataType) → StoresValues dtype }
+    ensures known { GivesEach physical_word known_words }
+{}
+
+/// A cast to the same type keeps each slot, and other pairs go by the table.
+pub fn same_type_comes_first()
+    ensures first { (from target : DataType) (options : CastOptions) →
+        SameTypeFirst from target options }
+{}
+
+/// A settled target leaves nothing to settle, and what decimals leave open, by hand.
+pub fn targets_settle_once()
+    ensures once { (from target : DataType) → SettlesOnce from target }
+    ensures known { GivesEach (λ pair. resolved_target pair.0 pair.1) known_targets }
+{}
+
+/// Integers beside a column, by hand.
+pub fn known_scalars()
+    ensures values { KnownScalars }
+{}
+
+/// Changes of a column's unit, by hand.
+pub fn known_unit_changes()
+    ensures values { KnownUnitChanges }
+{}
+
+/// Words at their ends, by hand.
+pub fn known_ends()
+    ensures ranges { GivesEach word_values known_ranges }
+    ensures ends { KnownEnds }
+{}
+
+/// Decimals at other scales, by hand.
+pub fn known_rescalings()
+    ensures values { GivesEach (λ row. rescaled_value row.1 row.2 row.3 row.0) known_rescalings }
 {}
 
 /// The quotient rounded down is the greatest integer whose multiple by the divisor doesn't pass

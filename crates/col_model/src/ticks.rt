@@ -11,9 +11,7 @@ ghost use Rattle.col_model.specs.UnitChange.{wrapped_in_finer_unit};
 ghost use Rattle.col_model.specs.UnitChange.{wrapped_datetime_by, wrapped_duration_by};
 ghost use Rattle.col_model.specs.CastTable.{day_of, time_of};
 
-use col_types::{CastOptions, TimeUnit};
-
-const NANOS_PER_DAY: i64 = 86_400_000_000_000;
+use col_types::{CastOptions, NANOS_PER_DAY, TimeUnit};
 
 /// How one unit stands to another.
 #[derive(Clone, Copy, Debug, PartialEq, Eq)]

@@ -1,5 +1,6 @@
 -- The rules of the tables as the code keeps them: what becomes of each tick.
-use Rattle.std.specs.Prelude.{◌≡◌, ◌<◌, ◌^◌, ◌*◌, ℕ, ℤ, pos, Bool, true, false, List, map, Option, Some, None, is_some, is_none, ◌&&◌, if◌then◌else◌}
+use Rattle.std.specs.Prelude.{◌≡◌, ◌<◌, ◌^◌, ◌*◌, ◌&&◌, if◌then◌else◌, ℕ, ℤ, pos, Bool, true, false}
+use Rattle.std.specs.Prelude.{List, map, Option, Some, None, is_some, is_none}
 use Rattle.std.specs.Int.{w32}
 use Rattle.std.specs.Option.{option_and_then}
 use Rattle.col_types.specs.TimeUnit.{nanos_per_day}

@@ -3,6 +3,7 @@
 
 mod any_value;
 mod cast;
+mod intervals;
 mod laws;
 mod series;
 mod shift;
@@ -15,6 +16,9 @@ mod unit_rule;
 pub use any_value::AnyValue;
 pub use col_types::{
     CastOptions, DataType, Kind, OpName, PlSmallStr, PolarsError, PolarsResult, TimeUnit, TimeZone,
+    ZoneNames, flat_supertype, get_time_units, parse_fixed_offset, parse_time_zone, same_zone,
+    try_get_supertype,
 };
+pub use intervals::{cast_interval, unit_interval};
 pub use laws::{own_type_keeps_column, times_lie_in_the_day};
 pub use series::Series;

@@ -4,7 +4,6 @@ ghost use Rattle.col_model.specs.Column.{is_built_type};
 ghost use Rattle.col_model.specs.ColumnCalls.{is_built_target};
 
 use super::*;
-use col_types::ZoneNames;
 use std::alloc::Global;
 use std::test::Fail;
 

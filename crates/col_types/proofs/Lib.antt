@@ -1,5 +1,4 @@
 pub mod DerivedLemmas
-pub mod KnownValues
 pub mod NameLemmas
 pub mod TypeLemmas
 pub mod ZoneLemmas

@@ -10,21 +10,21 @@ use Rattle.col_types.specs.declared.data_type.DataType.{DataType, Int8, Int16, I
 use Rattle.col_types.specs.DataType.{shape_of, leaf_of, with_leaf, same_type, same_unit, same_zone, same_number}
 
 -- Equal lengths of a tick are of one unit.
-unit_told : (u v : TimeUnit) → same_unit u v ≡ true → u ≡ v
-unit_told Nanoseconds Nanoseconds e = refl
-unit_told Microseconds Microseconds e = refl
-unit_told Milliseconds Milliseconds e = refl
-unit_told u v e = cc
+equal_units : (u v : TimeUnit) → same_unit u v ≡ true → u ≡ v
+equal_units Nanoseconds Nanoseconds e = refl
+equal_units Microseconds Microseconds e = refl
+equal_units Milliseconds Milliseconds e = refl
+equal_units u v e = cc
 
-zone_told : (y z : Option (List ℕ)) → same_zone y z ≡ true → y ≡ z
-zone_told None None e = refl
-zone_told (Some y) (Some z) e = ap Some ((bytes_eq-Decides y z).0 e)
-zone_told y z e = cc
+equal_zones : (y z : Option (List ℕ)) → same_zone y z ≡ true → y ≡ z
+equal_zones None None e = refl
+equal_zones (Some y) (Some z) e = ap Some ((bytes_eq-Decides y z).0 e)
+equal_zones y z e = cc
 
-number_told : (m n : Option ℕ) → same_number m n ≡ true → m ≡ n
-number_told None None e = refl
-number_told (Some m) (Some n) e = ap Some (eqb-true m n e)
-number_told m n e = cc
+equal_numbers : (m n : Option ℕ) → same_number m n ≡ true → m ≡ n
+equal_numbers None None e = refl
+equal_numbers (Some m) (Some n) e = ap Some (eqb-true m n e)
+equal_numbers m n e = cc
 
 unit_itself : (u : TimeUnit) → same_unit u u ≡ true
 unit_itself Nanoseconds = refl
@@ -57,11 +57,11 @@ same_type-shape_of Date Date e = refl
 same_type-shape_of Time Time e = refl
 same_type-shape_of (Datetime u y) (Datetime v z) e =
     let p = and_parts (same_unit u v) (same_zone y z) e in
-    rw (unit_told u v p.0, zone_told y z p.1) refl
-same_type-shape_of (Duration u) (Duration v) e = ap Duration (unit_told u v e)
+    rw (equal_units u v p.0, equal_zones y z p.1) refl
+same_type-shape_of (Duration u) (Duration v) e = ap Duration (equal_units u v e)
 same_type-shape_of (Decimal p s) (Decimal q t) e =
     let h = and_parts (same_number p q) (same_number s t) e in
-    rw (number_told p q h.0, number_told s t h.1) refl
+    rw (equal_numbers p q h.0, equal_numbers s t h.1) refl
 same_type-shape_of (List' p a) (List' q b) e = rw (same_type-shape_of a b e) refl
 same_type-shape_of (Array' p a m) (Array' q b n) e =
     let h = and_parts (nat_eq m n) (same_type a b) e in

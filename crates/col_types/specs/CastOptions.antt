@@ -1,7 +1,8 @@
 -- What a cast does with a value that does not fit.
 use Rattle.std.specs.Prelude.{Bool, true, false}
 use Rattle.col_types.specs.declared.cast_options.CastOptions.{CastOptions}
-use Rattle.col_types.specs.declared.cast_options.CastOptions.TheVariants.{Strict, NonStrict, Overflowing}
+use Rattle.col_types.specs.declared.cast_options.CastOptions.TheVariants.{Strict, NonStrict}
+use Rattle.col_types.specs.declared.cast_options.CastOptions.TheVariants.{Overflowing}
 use Rattle.col_types.specs.declared.cast_options.CastOptionsImpl.{CastOptionsImpl}
 
 -- Whether the cast is refused there.

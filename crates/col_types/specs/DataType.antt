@@ -1,11 +1,15 @@
 -- The types of columns: their variant, their form without places in memory, their equality.
-use Rattle.std.specs.Prelude.{ℕ, Bool, true, false, not, ◌&&◌, ◌||◌, nat_eq, nat_le, List, codes, Option, Some, None, Box}
+use Rattle.std.specs.Prelude.{ℕ, Bool, true, false, not, ◌&&◌, ◌||◌, nat_eq, nat_le, List, codes}
+use Rattle.std.specs.Prelude.{Option, Some, None, Box}
 use Rattle.std.specs.declared.alloc.Global.{Global}
 use Rattle.std.specs.Str.{bytes_eq}
 use denote.RawPtr.{null_ptr}
 use Rattle.col_types.specs.declared.time_unit.TimeUnit.{TimeUnit}
 use Rattle.col_types.specs.TimeUnit.{nanos_per_tick}
-use Rattle.col_types.specs.declared.data_type.DataType.{DataType, Int8, Int16, Int32, Int64, Int128, UInt8, UInt16, UInt32, UInt64, Boolean, String, Binary, Date, Datetime, Duration, Time, Decimal, List', Array'}
+use Rattle.col_types.specs.declared.data_type.DataType.{DataType, Int8, Int16, Int32, Int64, Int128}
+use Rattle.col_types.specs.declared.data_type.DataType.{UInt8, UInt16, UInt32, UInt64, Boolean}
+use Rattle.col_types.specs.declared.data_type.DataType.{String, Binary, Date, Datetime, Duration}
+use Rattle.col_types.specs.declared.data_type.DataType.{Time, Decimal, List', Array'}
 use Rattle.col_types.specs.declared.data_type.Kind.{Kind}
 use Rattle.col_types.specs.declared.data_type.Kind.TheVariants as kinds
 

@@ -4,7 +4,9 @@ use Rattle.std.specs.Option.{ok_or}
 use Rattle.col_types.specs.declared.error.PolarsError.{PolarsError}
 use Rattle.col_types.specs.declared.error.PolarsError.TheVariants.{Types}
 use Rattle.col_types.specs.declared.operator.OpName.TheVariants.{Supertype}
-use Rattle.col_types.specs.declared.data_type.DataType.{DataType, Int8, Int16, Int32, Int64, Int128, UInt8, UInt16, UInt32, UInt64, Boolean, Date, Datetime, Duration, Decimal}
+use Rattle.col_types.specs.declared.data_type.DataType.{DataType, Int8, Int16, Int32, Int64, Int128}
+use Rattle.col_types.specs.declared.data_type.DataType.{UInt8, UInt16, UInt32, UInt64, Boolean}
+use Rattle.col_types.specs.declared.data_type.DataType.{Date, Datetime, Duration, Decimal}
 use Rattle.col_types.specs.TimeUnit.{coarser_unit}
 use Rattle.col_types.specs.DataType.{kind_of, is_integer, shape_of, same_zone, same_type}
 

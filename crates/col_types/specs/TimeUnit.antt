@@ -1,7 +1,8 @@
 -- The names of units, and how they stand to each other.
 use Rattle.std.specs.Prelude.{ℕ, List, [], ◌∷◌, ◌++◌, codes, ◌/◌, nat_lt, if◌then◌else◌}
 use Rattle.col_types.specs.declared.time_unit.TimeUnit.{TimeUnit}
-use Rattle.col_types.specs.declared.time_unit.TimeUnit.TheVariants.{Nanoseconds, Microseconds, Milliseconds}
+use Rattle.col_types.specs.declared.time_unit.TimeUnit.TheVariants.{Nanoseconds, Microseconds}
+use Rattle.col_types.specs.declared.time_unit.TimeUnit.TheVariants.{Milliseconds}
 use Rattle.col_types.specs.declared.time_unit.ArrowTimeUnit.{ArrowTimeUnit}
 use Rattle.col_types.specs.declared.time_unit.ArrowTimeUnit.TheVariants as arrow
 

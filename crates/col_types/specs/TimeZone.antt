@@ -19,7 +19,8 @@ inside bytes len = record { bytes = bytes; len = len }
 
 -- The fields that keep a name.
 abbrev pub padded : List ℕ → Inside
-padded name = record { bytes = name ++ replicate (max_zone_bytes - length name) 0; len = length name }
+padded name =
+    record { bytes = name ++ replicate (max_zone_bytes - length name) 0; len = length name }
 
 -- The name determines the fields.
 pub padded_back : (z : Inside) → IsPadded z → padded (take z.len z.bytes) ≡ z
@@ -27,6 +28,7 @@ padded_back z h =
     let len : length (take z.len z.bytes) ≡ z.len = length-take-le z.len z.bytes (omega arith) in
     let whole : take z.len z.bytes ++ replicate (max_zone_bytes - z.len) 0 ≡ z.bytes =
     ap (λ l. take z.len z.bytes ++ l) (sym h.zeros) ∙ take-append-drop z.len z.bytes in
-    let bytes : take z.len z.bytes ++ replicate (max_zone_bytes - length (take z.len z.bytes)) 0 ≡ z.bytes =
+    let bytes :
+    take z.len z.bytes ++ replicate (max_zone_bytes - length (take z.len z.bytes)) 0 ≡ z.bytes =
     rw len whole in
     ap (λ b. inside b (length (take z.len z.bytes))) bytes ∙ ap (inside z.bytes) len

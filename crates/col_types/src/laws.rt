@@ -10,6 +10,8 @@ ghost use Rattle.col_types.specs.IsSorted.{reversed};
 ghost use Rattle.col_types.specs.Zones.{opt_zone, eq_wildcard_aware, eq_none_as_utc};
 ghost use Rattle.col_types.specs.Laws.{OrdersByTick, HasOneMore, GivesItselfAgain};
 ghost use Rattle.col_types.specs.Laws.{WildcardJoinsWhatDiffers};
+ghost use Rattle.col_types.specs.KnownValues.{KnownUnits, KnownZones};
+ghost use Rattle.col_types.specs.KnownValues.{KnownTypes, KnownSupertypes};
 
 use crate::{DataType, TimeUnit};
 
@@ -54,4 +56,24 @@ pub fn zone_equalities()
 pub fn equal_types()
     ensures derived { (a b : DataType) → ⟦<DataType as PartialEq>⟧.eq a b ≡ same_type a b }
     ensures shapes { (a b : DataType) → (same_type a b ≡ true) ↔ (shape_of a ≡ shape_of b) }
+{}
+
+/// Ticks of a day and coarser units, by hand.
+pub fn known_units()
+    ensures values { KnownUnits }
+{}
+
+/// Texts that name zones and texts that don't, by hand.
+pub fn known_zones()
+    ensures values { KnownZones }
+{}
+
+/// Types and their classes, by hand.
+pub fn known_types()
+    ensures values { KnownTypes }
+{}
+
+/// Pairs of types and their supertypes, by hand.
+pub fn known_supertypes()
+    ensures values { KnownSupertypes }
 {}

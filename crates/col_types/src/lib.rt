@@ -25,8 +25,8 @@ pub use error::{PolarsError, PolarsResult};
 pub use field::Field;
 pub use is_sorted::IsSorted;
 pub use laws::{
-    equal_types, names_are_kept, reverse_flag, units_are_ordered, units_translate, zone_equalities,
-    zone_names_are_canonical,
+    equal_types, known_supertypes, known_types, known_units, known_zones, names_are_kept,
+    reverse_flag, units_are_ordered, units_translate, zone_equalities, zone_names_are_canonical,
 };
 pub use operator::{BinOp, OpName, ScalarOp};
 pub use small_str::PlSmallStr;

@@ -22,12 +22,16 @@ returns-in_ok-clone-in-None c =
 pub returns-in-Some-refused_row : goal.returns-in-Some-refused_row
 returns-in-Some-refused_row c =
     let good : is_bad_target c.args.target.now ≡ false = sym c.is_bad_target.ensures.value ∙ c.if-is_bad_target.false in
-    record { slots = lost_refused c.args.from.now c.args.target.now c.args.options c.in-Some.rule (cast_rule c.args.from.now c.args.target.now c.args.options)
-        c.args.slots.now.value.items c.in_ok-changed-in-Some.lost c.in-Some-refused_row.row good c.in-Some.ensures.rule c.in_ok-changed-in-Some.ensures.lost c.in-Some-refused_row.ensures.refused }
+    record {
+      slots = lost_refused c.args.from.now c.args.target.now c.args.options c.in-Some.rule (cast_rule c.args.from.now c.args.target.now c.args.options)
+          c.args.slots.now.value.items c.in_ok-changed-in-Some.lost c.in-Some-refused_row.row good c.in-Some.ensures.rule c.in_ok-changed-in-Some.ensures.lost c.in-Some-refused_row.ensures.refused;
+    }
 
 pub returns-in-None-refused_row : goal.returns-in-None-refused_row
 returns-in-None-refused_row c =
     let good : is_bad_target c.args.target.now ≡ false = sym c.is_bad_target.ensures.value ∙ c.if-is_bad_target.false in
-    record { slots = rule_kept c.args.from.now c.args.target.now c.args.options c.in-Some.rule (cast_rule c.args.from.now c.args.target.now c.args.options)
-        c.args.slots.now.value.items c.in_ok-changed-in-Some.changed.value.items c.in_ok-changed-in-Some.lost good c.in-Some.ensures.rule
-        c.in_ok-changed-in-Some.ensures.lost c.in-None-refused_row.ensures.refused c.in_ok-changed-in-Some.ensures.slots }
+    record {
+      slots = rule_kept c.args.from.now c.args.target.now c.args.options c.in-Some.rule (cast_rule c.args.from.now c.args.target.now c.args.options)
+          c.args.slots.now.value.items c.in_ok-changed-in-Some.changed.value.items c.in_ok-changed-in-Some.lost good c.in-Some.ensures.rule
+          c.in_ok-changed-in-Some.ensures.lost c.in-None-refused_row.ensures.refused c.in_ok-changed-in-Some.ensures.slots;
+    }

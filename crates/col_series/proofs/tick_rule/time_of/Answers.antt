@@ -20,5 +20,7 @@ returns c =
     let fits : FitsSigned w64 (c.ticks_of_day.result *ℤ pos c.args.nanos) =
     time-fits c.ticks_of_day.result c.args.day c.args.nanos c.ticks_of_day.ensures.low c.ticks_of_day.ensures.below c.requires.day.whole in
     let read = rw (to_z-of_z w64 _ c.ranges.tick) at c.ticks_of_day.ensures.value in
-    record { value = rw (rest c, nanos c) (ap Some (to_z-of_z w64 _ fits)
-        ∙ time-read c.ticks_of_day.result c.args.tick c.args.day c.args.nanos c.requires.day.proper.some read) }
+    record {
+      value = rw (rest c, nanos c) (ap Some (to_z-of_z w64 _ fits)
+          ∙ time-read c.ticks_of_day.result c.args.tick c.args.day c.args.nanos c.requires.day.proper.some read);
+    }

@@ -1,0 +1,20 @@
+-- Where what operators and forms give lies.
+use Rattle.std.specs.Prelude.{◌+ℤ◌, ◌-ℤ◌, ℤ, Option, Some}
+use Rattle.col_types.specs.declared.data_type.DataType.{DataType}
+use Rattle.col_model.specs.OperatorTable.{OperatorRule}
+use Rattle.col_model.specs.ScalarTable.{scalar_right_rule, scalar_left_rule}
+use Rattle.col_arith.specs.declared.scalars.ScalarForm.{ScalarForm}
+use Rattle.col_arith.specs.declared.scalars.ScalarForm.TheVariants.{Right, Left}
+use Rattle.col_model.specs.Arithmetic.{Interval}
+use Rattle.col_arith.specs.declared.pair_rule.AddOrSub.{AddOrSub}
+use Rattle.col_arith.specs.declared.pair_rule.AddOrSub.TheVariants.{Add, Sub}
+
+-- the interval of a sum or a difference
+abbrev pub both_ends : AddOrSub → Interval → Interval → Option Interval
+both_ends Add p q = Some (record { low = p.low +ℤ q.low; high = p.high +ℤ q.high })
+both_ends Sub p q = Some (record { low = p.low -ℤ q.high; high = p.high -ℤ q.low })
+
+-- the rule of a form
+abbrev pub form_rule : ScalarForm → ℤ → DataType → Option OperatorRule
+form_rule (Right op) k dtype = scalar_right_rule dtype op k
+form_rule (Left op) k dtype = scalar_left_rule k op dtype
