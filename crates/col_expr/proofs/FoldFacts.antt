@@ -15,8 +15,13 @@ use Rattle.col_model.specs.Column.{Column}
 use Rattle.col_model.specs.Broadcast.{column_slots, operand_row, row_before}
 use Rattle.col_model.specs.ColumnCalls.{cast_slot}
 use Rattle.col_expr.specs.Tree.{Tree, Cast, Binary, ScalarRight, ScalarLeft, InUnit, Shift}
-use Rattle.col_expr.specs.Meaning.{name_of, dtype_of, rows_of, slot_at, flag_of, cast_dtype, cast_rule_for, cast_flag_for, rule_dtype, rule_slot, rule_slots, scalar_slot, operator_rule_for, scalar_right_rule_for, scalar_left_rule_for, unit_change_rule_for, broadcast_length_for, result_column}
-use Rattle.col_expr.specs.Refusal.{cast_refusal_at, binary_refusal_at, scalar_refusal_at, unsupported_at, refusal_at}
+use Rattle.col_expr.specs.Meaning.{name_of, dtype_of, rows_of, slot_at, flag_of, cast_dtype}
+use Rattle.col_expr.specs.Meaning.{cast_rule_for, cast_flag_for, rule_dtype, rule_slot, rule_slots}
+use Rattle.col_expr.specs.Meaning.{scalar_slot, operator_rule_for, scalar_right_rule_for}
+use Rattle.col_expr.specs.Meaning.{scalar_left_rule_for, unit_change_rule_for, broadcast_length_for}
+use Rattle.col_expr.specs.Meaning.{result_column}
+use Rattle.col_expr.specs.Refusal.{cast_refusal_at, binary_refusal_at, scalar_refusal_at}
+use Rattle.col_expr.specs.Refusal.{unsupported_at, refusal_at}
 
 pub record Facts : Type 0 where
   pub name : Option (List ℕ)

@@ -1,5 +1,6 @@
 -- Folding changes no column and no refusal: an induction on the tree.
-use Rattle.std.proofs.Common.{◌≡◌, ℕ, Bool, true, false, ◌&&◌, List, [], ◌∷◌, ◌++◌, Option, Some, None, is_some, refl, sym, ap, ◌∙◌, subst, arith}
+use Rattle.std.proofs.Common.{◌≡◌, ℕ, Bool, true, false, ◌&&◌, List, [], ◌∷◌, ◌++◌, Option, Some}
+use Rattle.std.proofs.Common.{None, is_some, refl, sym, ap, ◌∙◌, subst, arith}
 use Rattle.std.specs.Prelude.{if◌then◌else◌}
 use Rattle.std.specs.Option.{option_or}
 use Rattle.std.specs.List.{All}
@@ -12,17 +13,25 @@ use Rattle.col_model.specs.ColumnCalls.{unless_refused}
 use Rattle.col_model.specs.declared.ticks.UnitChange.{UnitChange}
 use Rattle.col_model.specs.declared.ticks.UnitChange.TheVariants.{Finer, Same, Coarser}
 use Rattle.col_expr.specs.declared.error.EvalError.{EvalError}
-use Rattle.col_expr.specs.Tree.{Tree, Input, Cast, Binary, ScalarRight, ScalarLeft, InUnit, Shift, node_count}
+use Rattle.col_expr.specs.Tree.{Tree, Input, Cast, Binary, ScalarRight, ScalarLeft, InUnit, Shift}
+use Rattle.col_expr.specs.Tree.{node_count}
 use Rattle.col_expr.specs.Numbers.{Numbers, Over, number_at, below, left_of, right_of, numbers_from}
 use Rattle.col_expr.specs.Meaning.{dtype_of, slot_at}
 use Rattle.col_expr.specs.Refusal.{refusal_at, first_refusal, outcome_by, outcome}
 use Rattle.col_expr.specs.Plan.{Plan, rule_holds, rules_hold, ends_before, is_plan_valid}
 use Rattle.col_expr.specs.PlanLaws.{IsKeptBy, numbered_nodes, ValidPlansAreKept}
-use Rattle.col_expr.specs.Folded.{unit_step_for, step_of, goes_on, turns_back, Numbered, cast_operand, under_cast, cast_over, is_type, is_covered, joined_operand, fold_cast, folded_by, plan_if, folded}
+use Rattle.col_expr.specs.Folded.{unit_step_for, step_of, goes_on, turns_back, Numbered}
+use Rattle.col_expr.specs.Folded.{cast_operand, under_cast, cast_over, is_type, is_covered}
+use Rattle.col_expr.specs.Folded.{joined_operand, fold_cast, folded_by, plan_if, folded}
 use Rattle.col_expr.specs.FoldLaws.{FoldingChangesNoAnswer}
-use Rattle.col_expr.proofs.FoldFacts.{Facts, facts, cast_facts, same_cast, same_binary, same_right, same_left, same_unit_change, same_shift, refused_cast, refused_binary, refused_right, refused_left, refused_unit_change, same_column}
-use Rattle.col_expr.proofs.FoldSteps.{OneWay, goes_on-parts, both_finer, finer_first, some_is, IsStep, step_is, step_told, joined_step}
-use Rattle.col_expr.proofs.FoldTurns.{turned_back, covered_below, covered_keeps, All-left, All-right, All-last}
+use Rattle.col_expr.proofs.FoldFacts.{Facts, facts, cast_facts, same_cast, same_binary, same_right}
+use Rattle.col_expr.proofs.FoldFacts.{same_left, same_unit_change, same_shift, refused_cast}
+use Rattle.col_expr.proofs.FoldFacts.{refused_binary, refused_right, refused_left}
+use Rattle.col_expr.proofs.FoldFacts.{refused_unit_change, same_column}
+use Rattle.col_expr.proofs.FoldSteps.{OneWay, goes_on-parts, both_finer, finer_first, some_is}
+use Rattle.col_expr.proofs.FoldSteps.{IsStep, step_is, step_told, joined_step}
+use Rattle.col_expr.proofs.FoldTurns.{turned_back, covered_below, covered_keeps, All-left}
+use Rattle.col_expr.proofs.FoldTurns.{All-right, All-last}
 
 -- ---- what a plan says of a part of a tree
 
@@ -45,7 +54,7 @@ trusted_over : (inputs : List Column) (plan : Plan) (numbers : Numbers) (e tree 
     TrustedOver inputs plan numbers e tree
 trusted_over inputs plan numbers e tree rules kept =
     let both = and_parts (rules_hold inputs plan (below numbers) e)
-        (rule_holds inputs plan numbers tree) rules in
+    (rule_holds inputs plan numbers tree) rules in
     record {
       under = record {
         rules = both.0;
@@ -75,8 +84,8 @@ trusted_both inputs plan numbers l r tree rules kept =
     let first = numbered_nodes (left_of numbers) l in
     let second = numbered_nodes (right_of numbers) r in
     let both = and_parts (rules_hold inputs plan (left_of numbers) l)
-        (rules_hold inputs plan (right_of numbers) r && rule_holds inputs plan numbers tree)
-        rules in
+    (rules_hold inputs plan (right_of numbers) r && rule_holds inputs plan numbers tree)
+    rules in
     record {
       left = record {
         rules = both.0;
@@ -114,8 +123,8 @@ Careful inputs plan numbers (ScalarLeft k op g) = Unit {0}
 Careful inputs plan numbers (InUnit g unit) = Unit {0}
 Careful inputs plan numbers (Shift g periods) = Unit {0}
 
--- a folded tree has the column and the first refusal of the tree; a step to a finer unit at its root
--- has the root's number
+-- a folded tree has the column and the first refusal of the tree; a step to a finer unit at its
+-- root has the root's number
 pub record IsFoldedAs (inputs : List Column) (plan : Plan) (numbers : Numbers) (f : Numbered)
     (e : Tree) : Type 0 where
   pub same : facts inputs f.tree ≡ facts inputs e
@@ -137,13 +146,16 @@ stays inputs plan numbers e c o f trusted is alone =
       same = same;
       refused = λ i. option_or (is.refused i)
           (refused_cast inputs (number_at numbers) f.tree e c o is.same i);
-      careful = ((λ m h. record {
+      careful = (
+        (λ m h. record {
           alone = alone m h;
           lossless = λ covered row x there.
               let y = covered_keeps inputs plan numbers e c o trusted.keeps covered row x
-                  (sym (ap (λ (x : Facts). x.slot row) is.same) ∙ there) in
+              (sym (ap (λ (x : Facts). x.slot row) is.same) ∙ there) in
               (y.0, ap (λ (x : Facts). x.slot row) same ∙ y.1);
-        }), is.careful);
+        }),
+        is.careful,
+      );
       number = λ m h. refl;
     }
 
@@ -184,28 +196,31 @@ joined inputs plan numbers ns e g b c first o s t trusted is one two way =
           ∙ under_steps inputs (number_at numbers) ns g b c first o s t one two
           ∙ (λ i. option_or (is.refused i)
           (refused_cast inputs (number_at numbers) (Cast g b first) e c o is.same i));
-      careful = ((λ m h.
-          let fine = some_is _ _
-              (sym (step_told (facts inputs g) o c j.step j.is_step) ∙ h) in
-          let lower = finer_first s j.step m j.way fine in
-          let upper = both_finer s t lower.0 way lower.1 in
-          let below_is = step_told (facts inputs g) first b s one ∙ ap Some lower.1 in
-          let inner = is.careful.0 lower.0 below_is in
-          let P : UnitChange → Type 0 = λ u. IsStep (facts inputs (Cast g b first)) o c u in
-          let Q : Facts → Type 0 = λ u. IsStep u o c (Finer upper.0) in
-          let above : IsStep (facts inputs e) o c (Finer upper.0) =
-          subst Q is.same (subst P upper.1 two) in
-          record {
-            alone = inner.alone;
-            lossless = λ covered row x there.
-                let under = covered_below inputs plan numbers e c o upper.0 above trusted.holds
-                    covered in
-                let y = inner.lossless
-                    (ap (is_covered plan) (is.number lower.0 below_is) ∙ under) row x there in
-                let z = covered_keeps inputs plan numbers e c o trusted.keeps covered row y.0
-                    (sym (ap (λ (f : Facts). f.slot row) is.same) ∙ y.1) in
-                (z.0, ap (λ (f : Facts). f.slot row) same ∙ z.1);
-          }), is.careful.1);
+      careful = (
+        (λ m h.
+            let fine = some_is _ _
+            (sym (step_told (facts inputs g) o c j.step j.is_step) ∙ h) in
+            let lower = finer_first s j.step m j.way fine in
+            let upper = both_finer s t lower.0 way lower.1 in
+            let below_is = step_told (facts inputs g) first b s one ∙ ap Some lower.1 in
+            let inner = is.careful.0 lower.0 below_is in
+            let P : UnitChange → Type 0 = λ u. IsStep (facts inputs (Cast g b first)) o c u in
+            let Q : Facts → Type 0 = λ u. IsStep u o c (Finer upper.0) in
+            let above : IsStep (facts inputs e) o c (Finer upper.0) =
+            subst Q is.same (subst P upper.1 two) in
+            record {
+              alone = inner.alone;
+              lossless = λ covered row x there.
+                  let under = covered_below inputs plan numbers e c o upper.0 above trusted.holds
+                  covered in
+                  let y = inner.lossless
+                  (ap (is_covered plan) (is.number lower.0 below_is) ∙ under) row x there in
+                  let z = covered_keeps inputs plan numbers e c o trusted.keeps covered row y.0
+                  (sym (ap (λ (f : Facts). f.slot row) is.same) ∙ y.1) in
+                  (z.0, ap (λ (f : Facts). f.slot row) same ∙ z.1);
+            }),
+        is.careful.1,
+      );
       number = λ m h. refl;
     }
 
@@ -242,7 +257,8 @@ join_by inputs plan numbers e c o tree ns trusted is false h =
     (λ m second k first.
     not_both (step_of inputs tree) (step_of inputs (Cast tree c o)) k m h second first)
 join_by inputs plan numbers e c o (Cast g b first) ns trusted is true h =
-    let go = go_on (step_of inputs (Cast g b first)) (step_of inputs (Cast (Cast g b first) c o)) h in
+    let go = go_on (step_of inputs (Cast g b first))
+    (step_of inputs (Cast (Cast g b first) c o)) h in
     joined inputs plan numbers ns e g b c first o go.s go.t trusted is
     (step_is (facts inputs g) first b go.s go.first)
     (step_is (facts inputs (Cast g b first)) o c go.t go.second) go.way

@@ -1,5 +1,6 @@
 -- Nodes over folded operands: their refusals, and two operands.
-use Rattle.std.proofs.Common.{◌≡◌, ℕ, ◌+◌, Bool, true, false, ◌&&◌, List, length, Option, Some, None, Result, Err, IfOk, OnOk, refl, sym, ap, ◌∙◌, subst}
+use Rattle.std.proofs.Common.{◌≡◌, ℕ, ◌+◌, Bool, true, false, ◌&&◌, List, length, Option, Some}
+use Rattle.std.proofs.Common.{None, Result, Err, IfOk, OnOk, refl, sym, ap, ◌∙◌, subst}
 use Rattle.std.specs.Prelude.{if◌then◌else◌}
 use Rattle.std.specs.Option.{option_or}
 use Rattle.std.proofs.lemmas.Bool.{and_parts}
@@ -17,15 +18,19 @@ use Rattle.col_expr.specs.declared.node.UnaryOp.{UnaryOp}
 use Rattle.col_expr.specs.declared.node.UnaryOp.TheVariants as operations
 use Rattle.col_expr.specs.declared.waiting.UnitCast.{UnitCast}
 use Rattle.col_expr.specs.declared.waiting.Waiting.{Waiting}
-use Rattle.col_expr.specs.Tree.{Tree, Input, Cast, Binary, ScalarRight, ScalarLeft, InUnit, Shift, node_count}
+use Rattle.col_expr.specs.Tree.{Tree, Input, Cast, Binary, ScalarRight, ScalarLeft, InUnit, Shift}
+use Rattle.col_expr.specs.Tree.{node_count}
 use Rattle.col_expr.specs.Node.{over}
 use Rattle.col_expr.specs.Numbers.{Numbers, Over, Join, number_at, below, numbers_from}
 use Rattle.col_expr.specs.Meaning.{dtype_of, step_count}
 use Rattle.col_expr.specs.Refusal.{Unless, GivesBy, refusal_at, first_refusal}
 use Rattle.col_expr.specs.Found.{IsFine, numbered}
 use Rattle.col_expr.specs.Plan.{Plan}
-use Rattle.col_expr.specs.Folded.{Numbered, step_of, goes_on, turns_back, is_type, is_covered, cast_operand, under_cast, cast_over, joined_operand, turned_cast, fold_cast, folded_by}
-use Rattle.col_expr.specs.Waiting.{waiting_dtype, IsLevel, Leads, IsUnitCast, fold_over, IsWaiting, IsReady, IsFolding}
+use Rattle.col_expr.specs.Folded.{Numbered, step_of, goes_on, turns_back, is_type, is_covered}
+use Rattle.col_expr.specs.Folded.{cast_operand, under_cast, cast_over, joined_operand, turned_cast}
+use Rattle.col_expr.specs.Folded.{fold_cast, folded_by}
+use Rattle.col_expr.specs.Waiting.{waiting_dtype, IsLevel, Leads, IsUnitCast, fold_over, IsWaiting}
+use Rattle.col_expr.specs.Waiting.{IsReady, IsFolding}
 use Rattle.col_expr.proofs.NodeLemmas.{Unless-map}
 use Rattle.col_expr.proofs.BinaryLemmas.{found_binary, steps_binary}
 use Rattle.col_expr.proofs.FoldFacts.{facts}
@@ -92,7 +97,7 @@ fold_refused inputs plan node (operations.Cast target options) f error refused =
     let same = is_type (dtype_of inputs (cast_operand g.tree)) target in
     let covered = is_covered plan (number_at g.numbers) in
     let P : Bool → Type 0 = λ b. refused_as inputs error
-        (if b then under_cast g else cast_over node g target options) in
+    (if b then under_cast g else cast_over node g target options) in
     subst P (sym (and_assoc turn same covered))
     (turn_refused inputs node g target options error turn (same && covered) refl
     (join_refused inputs f target options error

@@ -1,5 +1,7 @@
 -- Casts from unit to unit: what they give, two that go on, and two that turn back.
-use Rattle.std.proofs.Common.{◌≡◌, ◌≢◌, ℕ, ◌+◌, ◌<◌, ◌≤◌, Bool, true, false, ◌&&◌, List, [], ◌∷◌, map, Option, Some, None, is_some, is_none, ◌⊎◌, inl, inr, refl, sym, ap, ◌∙◌, subst, arith, nat_lt, nat_le, ◌/◌, lt-ltb}
+use Rattle.std.proofs.Common.{◌≡◌, ◌≢◌, ℕ, ◌+◌, ◌<◌, ◌≤◌, Bool, true, false, ◌&&◌, List, [], ◌∷◌}
+use Rattle.std.proofs.Common.{map, Option, Some, None, is_some, is_none, ◌⊎◌, inl, inr, refl, sym}
+use Rattle.std.proofs.Common.{ap, ◌∙◌, subst, arith, nat_lt, nat_le, ◌/◌, lt-ltb}
 use Rattle.std.specs.Prelude.{if◌then◌else◌}
 use Rattle.std.specs.Option.{option_map}
 use Rattle.std.specs.List.{range_with_len}
@@ -10,7 +12,8 @@ use Rattle.col_types.specs.TimeUnit.{nanos_per_tick}
 use Rattle.col_types.specs.DataType.{is_expression_target, same_type, shape_of}
 use Rattle.col_types.specs.declared.data_type.DataType.{DataType, Datetime, Duration}
 use Rattle.col_types.specs.declared.cast_options.CastOptions.{CastOptions}
-use Rattle.col_types.specs.declared.cast_options.CastOptions.TheVariants.{Strict, NonStrict, Overflowing}
+use Rattle.col_types.specs.declared.cast_options.CastOptions.TheVariants.{Strict, NonStrict}
+use Rattle.col_types.specs.declared.cast_options.CastOptions.TheVariants.{Overflowing}
 use Rattle.col_types.specs.declared.time_unit.TimeUnit.{TimeUnit}
 use Rattle.col_types.specs.declared.is_sorted.IsSorted.{IsSorted}
 use Rattle.col_types.proofs.TypeLemmas.{same_type-Decides}
@@ -23,11 +26,14 @@ use Rattle.col_model.specs.UnitChange.{unit_change, datetime_in_unit, duration_i
 use Rattle.col_model.specs.UnitLaws.{slot_cast, is_no_coarser, is_no_finer}
 use Rattle.col_model.specs.declared.ticks.UnitChange.{UnitChange}
 use Rattle.col_model.specs.declared.ticks.UnitChange.TheVariants.{Finer, Same, Coarser}
-use Rattle.col_model.proofs.ChainLemmas.{moments_back, lengths_back, finer_moments_one, finer_lengths_one, coarser_moments_one, coarser_lengths_one}
+use Rattle.col_model.proofs.ChainLemmas.{moments_back, lengths_back, finer_moments_one}
+use Rattle.col_model.proofs.ChainLemmas.{finer_lengths_one, coarser_moments_one}
+use Rattle.col_model.proofs.ChainLemmas.{coarser_lengths_one}
 use Rattle.col_expr.specs.declared.error.EvalError.{EvalError}
 use Rattle.col_expr.specs.Meaning.{cast_dtype, cast_rule_for, cast_flag_for}
 use Rattle.col_expr.specs.Refusal.{cast_refusal_at}
-use Rattle.col_expr.specs.Folded.{unit_step, unit_step_by, unit_step_for, goes_on, turns_back, is_type}
+use Rattle.col_expr.specs.Folded.{unit_step, unit_step_by, unit_step_for, goes_on, turns_back}
+use Rattle.col_expr.specs.Folded.{is_type}
 use Rattle.col_expr.proofs.FoldFacts.{Facts, cast_facts, slots_by_facts, row_count_by}
 
 -- ---- the ways of two units
@@ -358,7 +364,8 @@ pub both_coarser : (s t : UnitChange) (m : ℕ) → OneWay s t → s ≡ Coarser
 both_coarser s t m (inl way) h = cc (sym h ∙ way.2)
 both_coarser s t m (inr way) h = (way.1, way.3)
 
-kept_twice : (p q : Bool) (flag : IsSorted) → kept_flag (p && q) flag ≡ kept_flag q (kept_flag p flag)
+kept_twice : (p q : Bool) (flag : IsSorted) →
+    kept_flag (p && q) flag ≡ kept_flag q (kept_flag p flag)
 kept_twice true q flag = refl
 kept_twice false true flag = refl
 kept_twice false false flag = refl
@@ -370,7 +377,7 @@ twice_facts : (f : Facts) (a b c : DataType) →
 twice_facts f a b c two =
     let rows = range_with_len 0 (row_count_by f) in
     let kept : keeps_all a c (slots_by_facts f)
-        ≡ (keeps_all a b (slots_by_facts f) && keeps_all b c (slots_by_facts (step_facts a b f))) =
+    ≡ (keeps_all a b (slots_by_facts f) && keeps_all b c (slots_by_facts (step_facts a b f))) =
     both_lost (slot_cast a b) (slot_cast b c) (slot_cast a c) two (null_cast a b) (null_cast b c) 0
     (slots_by_facts f)
     ∙ ap (λ slots. keeps_all a b (slots_by_facts f) && keeps_all b c slots)
@@ -408,7 +415,8 @@ joined_step f options second target last s t one two way =
       step = both.step;
       is_step = subst P (sym two.free) step;
       way = both.way;
-      same = ap (λ o. cast_facts last o f) two.free ∙ step_column f last one.from both.step one.typed two.good both.pair
+      same = ap (λ o. cast_facts last o f) two.free
+          ∙ step_column f last one.from both.step one.typed two.good both.pair
           ∙ twice_facts f one.from target last
           (λ slot. two_steps one.from target last s t slot one.pair pair way)
           ∙ ap (λ b. step_facts b last (step_facts one.from target f)) (sym between)

@@ -1,5 +1,7 @@
 -- A cast to a finer unit and back, where no slot is lost; and what a covered cast says.
-use Rattle.std.proofs.Common.{◌≡◌, ℕ, ◌+◌, ◌<◌, ◌≤◌, Bool, true, false, ◌&&◌, List, [], ◌∷◌, ◌++◌, map, length, get_or, Option, Some, None, is_some, is_none, refl, sym, ap, ◌∙◌, subst, arith, length-append}
+use Rattle.std.proofs.Common.{◌≡◌, ℕ, ◌+◌, ◌<◌, ◌≤◌, Bool, true, false, ◌&&◌, List, [], ◌∷◌, ◌++◌}
+use Rattle.std.proofs.Common.{map, length, get_or, Option, Some, None, is_some, is_none, refl, sym}
+use Rattle.std.proofs.Common.{ap, ◌∙◌, subst, arith, length-append}
 use Rattle.std.specs.Prelude.{if◌then◌else◌}
 use Rattle.std.specs.List.{All, range_with_len}
 use Rattle.std.proofs.lemmas.Bool.{and_parts}
@@ -11,7 +13,8 @@ use Rattle.col_types.specs.declared.data_type.DataType.{DataType, Datetime, Dura
 use Rattle.col_types.specs.declared.cast_options.CastOptions.{CastOptions}
 use Rattle.col_types.specs.declared.cast_options.CastOptions.TheVariants.{NonStrict}
 use Rattle.col_types.specs.declared.time_unit.TimeUnit.{TimeUnit}
-use Rattle.col_types.specs.declared.time_unit.TimeUnit.TheVariants.{Nanoseconds, Microseconds, Milliseconds}
+use Rattle.col_types.specs.declared.time_unit.TimeUnit.TheVariants.{Nanoseconds, Microseconds}
+use Rattle.col_types.specs.declared.time_unit.TimeUnit.TheVariants.{Milliseconds}
 use Rattle.col_types.specs.declared.is_sorted.IsSorted.{IsSorted}
 use Rattle.col_types.proofs.TypeLemmas.{same_type-Decides}
 use Rattle.col_model.specs.Value.{Value, whole}
@@ -27,11 +30,15 @@ use Rattle.col_model.proofs.ChainLemmas.{moments_back, lengths_back}
 use Rattle.col_expr.specs.Tree.{Tree, Cast}
 use Rattle.col_expr.specs.Numbers.{Numbers, number_at, below}
 use Rattle.col_expr.specs.Meaning.{dtype_of, slot_at, cast_rule_for}
-use Rattle.col_expr.specs.Plan.{Plan, interval_in, cast_formula, formula_for, image_by, image_of, bound_by, is_image_inside, fits_type, is_kept_within, keeps_rule, rule_holds}
+use Rattle.col_expr.specs.Plan.{Plan, interval_in, cast_formula, formula_for, image_by, image_of}
+use Rattle.col_expr.specs.Plan.{bound_by, is_image_inside, fits_type, is_kept_within, keeps_rule}
+use Rattle.col_expr.specs.Plan.{rule_holds}
 use Rattle.col_expr.specs.PlanLaws.{IsKeptBy, IsKeptIn}
 use Rattle.col_expr.specs.Folded.{unit_step, is_type, is_covered}
 use Rattle.col_expr.proofs.FoldFacts.{Facts, facts, cast_facts, slots_by_facts, row_count_by}
-use Rattle.col_expr.proofs.FoldSteps.{finer_way, no_coarser, some_is, null_cast, StaysValid, none_lost, own_shape, unit_rule, keeps_all, step_facts, IsStep}
+use Rattle.col_expr.proofs.FoldSteps.{finer_way, no_coarser, some_is, null_cast, StaysValid}
+use Rattle.col_expr.proofs.FoldSteps.{none_lost, own_shape, unit_rule, keeps_all, step_facts}
+use Rattle.col_expr.proofs.FoldSteps.{IsStep}
 
 -- ---- slots
 
@@ -133,28 +140,40 @@ not_finer u v m coarse h = let fine = finer_way u v m h in omega arith
 wide_moments : (u v : TimeUnit) (x y : Option (List ℕ)) (m : ℕ) → unit_change u v ≡ Finer m →
     image_by (cast_formula (cast_rule (Datetime u x) (Datetime v y) NonStrict))
     (values_of (Datetime u x)) (values_of (Datetime u x)) ≡ None
-wide_moments Nanoseconds Nanoseconds x y m h = absurd (not_finer Nanoseconds Nanoseconds m (omega arith) h)
-wide_moments Nanoseconds Microseconds x y m h = absurd (not_finer Nanoseconds Microseconds m (omega arith) h)
-wide_moments Nanoseconds Milliseconds x y m h = absurd (not_finer Nanoseconds Milliseconds m (omega arith) h)
+wide_moments Nanoseconds Nanoseconds x y m h =
+    absurd (not_finer Nanoseconds Nanoseconds m (omega arith) h)
+wide_moments Nanoseconds Microseconds x y m h =
+    absurd (not_finer Nanoseconds Microseconds m (omega arith) h)
+wide_moments Nanoseconds Milliseconds x y m h =
+    absurd (not_finer Nanoseconds Milliseconds m (omega arith) h)
 wide_moments Microseconds Nanoseconds x y m h = refl
-wide_moments Microseconds Microseconds x y m h = absurd (not_finer Microseconds Microseconds m (omega arith) h)
-wide_moments Microseconds Milliseconds x y m h = absurd (not_finer Microseconds Milliseconds m (omega arith) h)
+wide_moments Microseconds Microseconds x y m h =
+    absurd (not_finer Microseconds Microseconds m (omega arith) h)
+wide_moments Microseconds Milliseconds x y m h =
+    absurd (not_finer Microseconds Milliseconds m (omega arith) h)
 wide_moments Milliseconds Nanoseconds x y m h = refl
 wide_moments Milliseconds Microseconds x y m h = refl
-wide_moments Milliseconds Milliseconds x y m h = absurd (not_finer Milliseconds Milliseconds m (omega arith) h)
+wide_moments Milliseconds Milliseconds x y m h =
+    absurd (not_finer Milliseconds Milliseconds m (omega arith) h)
 
 wide_lengths : (u v : TimeUnit) (m : ℕ) → unit_change u v ≡ Finer m →
     image_by (cast_formula (cast_rule (Duration u) (Duration v) NonStrict))
     (values_of (Duration u)) (values_of (Duration u)) ≡ None
-wide_lengths Nanoseconds Nanoseconds m h = absurd (not_finer Nanoseconds Nanoseconds m (omega arith) h)
-wide_lengths Nanoseconds Microseconds m h = absurd (not_finer Nanoseconds Microseconds m (omega arith) h)
-wide_lengths Nanoseconds Milliseconds m h = absurd (not_finer Nanoseconds Milliseconds m (omega arith) h)
+wide_lengths Nanoseconds Nanoseconds m h =
+    absurd (not_finer Nanoseconds Nanoseconds m (omega arith) h)
+wide_lengths Nanoseconds Microseconds m h =
+    absurd (not_finer Nanoseconds Microseconds m (omega arith) h)
+wide_lengths Nanoseconds Milliseconds m h =
+    absurd (not_finer Nanoseconds Milliseconds m (omega arith) h)
 wide_lengths Microseconds Nanoseconds m h = refl
-wide_lengths Microseconds Microseconds m h = absurd (not_finer Microseconds Microseconds m (omega arith) h)
-wide_lengths Microseconds Milliseconds m h = absurd (not_finer Microseconds Milliseconds m (omega arith) h)
+wide_lengths Microseconds Microseconds m h =
+    absurd (not_finer Microseconds Microseconds m (omega arith) h)
+wide_lengths Microseconds Milliseconds m h =
+    absurd (not_finer Microseconds Milliseconds m (omega arith) h)
 wide_lengths Milliseconds Nanoseconds m h = refl
 wide_lengths Milliseconds Microseconds m h = refl
-wide_lengths Milliseconds Milliseconds m h = absurd (not_finer Milliseconds Milliseconds m (omega arith) h)
+wide_lengths Milliseconds Milliseconds m h =
+    absurd (not_finer Milliseconds Milliseconds m (omega arith) h)
 
 wide_step : (a b : DataType) (m : ℕ) → unit_step a b ≡ Some (Finer m) →
     image_by (cast_formula (cast_rule a b NonStrict)) (values_of a) (values_of a) ≡ None
@@ -178,15 +197,20 @@ covered_below inputs plan numbers e target options m step holds covered =
     by_bound (interval_in plan (number_at (below numbers))) refl
   where
     kept : (bound : Option Interval) → interval_in plan (number_at (below numbers)) ≡ bound →
-        (range : Interval) × (is_image_inside range (image_by (formula_for inputs (Cast e target options))
+        (range : Interval)
+        × (is_image_inside range (image_by (formula_for inputs (Cast e target options))
         (bound_by bound (dtype_of inputs e)) (bound_by bound (dtype_of inputs e))) ≡ true)
     kept bound is =
         let range = covered_range (interval_in plan (number_at numbers)) covered in
-        let whole = sym (ap (keeps_rule inputs plan numbers (Cast e target options)) range.1) ∙ holds in
+        let whole =
+        sym (ap (keeps_rule inputs plan numbers (Cast e target options)) range.1) ∙ holds in
         let inside = and_parts (fits_type (dtype_of inputs (Cast e target options)) range.0)
-            (is_kept_within inputs plan numbers (Cast e target options) range.0) whole in
-        (range.0, ap (λ b. is_image_inside range.0 (image_by (formula_for inputs (Cast e target options))
-        (bound_by b (dtype_of inputs e)) (bound_by b (dtype_of inputs e)))) (sym is) ∙ inside.1)
+        (is_kept_within inputs plan numbers (Cast e target options) range.0) whole in (
+          range.0,
+          ap (λ b. is_image_inside range.0 (image_by (formula_for inputs (Cast e target options))
+              (bound_by b (dtype_of inputs e)) (bound_by b (dtype_of inputs e))))
+              (sym is) ∙ inside.1,
+        )
 
     by_bound : (bound : Option Interval) → interval_in plan (number_at (below numbers)) ≡ bound →
         is_covered plan (number_at (below numbers)) ≡ true
@@ -195,7 +219,7 @@ covered_below inputs plan numbers e target options m step holds covered =
         let found = kept None is in
         let settled = (unit_rule step.from target (Finer m) step.pair).settled in
         let none : image_by (cast_formula (cast_rule_for (dtype_of inputs e) target options))
-            (bound_by None (dtype_of inputs e)) (bound_by None (dtype_of inputs e)) ≡ None =
+        (bound_by None (dtype_of inputs e)) (bound_by None (dtype_of inputs e)) ≡ None =
         rw (step.typed, step.free, settled) (wide_step step.from target m step.pair) in
         cc (ap (is_image_inside found.0) (sym none) ∙ found.1)
 

@@ -1,5 +1,7 @@
 -- Columns over which casts wait: done, joined and taken away.
-use Rattle.std.proofs.Common.{◌≡◌, ℕ, ◌+◌, Bool, true, false, ◌&&◌, List, [], length, Option, Some, None, Result, Ok, Err, OnOk, IfOk, ◌⊎◌, inl, inr, refl, sym, ap, ◌∙◌, subst}
+use Rattle.std.proofs.Common.{◌≡◌, ℕ, ◌+◌, Bool, true, false, ◌&&◌, List, [], length, Option, Some}
+use Rattle.std.proofs.Common.{None, Result, Ok, Err, OnOk, IfOk, ◌⊎◌, inl, inr, refl, sym, ap, ◌∙◌}
+use Rattle.std.proofs.Common.{subst}
 use Rattle.std.specs.Prelude.{if◌then◌else◌, unwrap_or}
 use Rattle.std.specs.List.{All}
 use Rattle.col_types.specs.DataType.{same_type}
@@ -26,12 +28,17 @@ use Rattle.col_expr.specs.Refusal.{GivesBy, outcome_by, outcome}
 use Rattle.col_expr.specs.Found.{IsColumnOf, IsFine, IsFound, unary_at}
 use Rattle.col_expr.specs.Plan.{Plan}
 use Rattle.col_expr.specs.PlanLaws.{ValidPlansAreKept}
-use Rattle.col_expr.specs.Folded.{Numbered, step_of, goes_on, turns_back, is_type, is_covered, cast_operand, under_cast, cast_over, joined_operand, turned_cast, fold_cast, folded_by, folded}
-use Rattle.col_expr.specs.Waiting.{way_of, same_way, there_and_back, waiting_dtype, under_last, last_turns_back, joined_waiting, IsLevel, Leads, operation_step, fold_over, IsWaiting, IsReady}
+use Rattle.col_expr.specs.Folded.{Numbered, step_of, goes_on, turns_back, is_type, is_covered}
+use Rattle.col_expr.specs.Folded.{cast_operand, under_cast, cast_over, joined_operand, turned_cast}
+use Rattle.col_expr.specs.Folded.{fold_cast, folded_by, folded}
+use Rattle.col_expr.specs.Waiting.{way_of, same_way, there_and_back, waiting_dtype, under_last}
+use Rattle.col_expr.specs.Waiting.{last_turns_back, joined_waiting, IsLevel, Leads, operation_step}
+use Rattle.col_expr.specs.Waiting.{fold_over, IsWaiting, IsReady}
 use Rattle.col_expr.proofs.NodeLemmas.{Unless-map, slots_of-is}
 use Rattle.col_expr.proofs.UnaryLemmas.{found_unary, refused_below, steps_unary}
 use Rattle.col_expr.proofs.FoldFacts.{Facts, facts}
-use Rattle.col_expr.proofs.FoldSteps.{OneWay, goes_on-parts, some_is, step_is, step_told, joined_step}
+use Rattle.col_expr.proofs.FoldSteps.{OneWay, goes_on-parts, some_is, step_is, step_told}
+use Rattle.col_expr.proofs.FoldSteps.{joined_step}
 use Rattle.col_expr.proofs.FoldLemmas.{folding_good}
 
 -- ---- what is done
@@ -142,14 +149,16 @@ leads_on : (inputs : List Column) (g : Numbered) (last cast : UnitCast) →
 leads_on inputs g last cast one two same =
     let f = facts inputs g.tree in
     let way = goes_on-parts one.0 two.0
-        (ways_on one.0 two.0 last.way cast.way one.2 two.2 ∙ same) in
+    (ways_on one.0 two.0 last.way cast.way one.2 two.2 ∙ same) in
     let j = joined_step f NonStrict NonStrict last.target cast.target one.0 two.0
-        (step_is f NonStrict last.target one.0 one.1)
-        (step_is (facts inputs (Cast g.tree last.target NonStrict)) NonStrict cast.target two.0
-        two.1)
-        way in
-    (j.step, step_told f NonStrict cast.target j.step j.is_step,
-    sym (one_way one.0 j.step j.way) ∙ one_way one.0 two.0 way ∙ two.2)
+    (step_is f NonStrict last.target one.0 one.1)
+    (step_is (facts inputs (Cast g.tree last.target NonStrict)) NonStrict cast.target two.0
+    two.1)
+    way in (
+      j.step,
+      step_told f NonStrict cast.target j.step j.is_step,
+      sym (one_way one.0 j.step j.way) ∙ one_way one.0 two.0 way ∙ two.2,
+    )
 
 -- ---- steps that neither go on nor turn back
 
@@ -324,9 +333,12 @@ pub fold_over_it : (inputs : List Column) (plan : Plan) (f : Numbered) (before a
     × Leads (dtype_of inputs g.tree) cast × IsWaiting inputs g before after (joined_waiting w cast)
 fold_over_it inputs plan f before after w cast is leads back =
     let j = join_waiting inputs f before after w cast is leads in
-    let g = joined_operand inputs f cast.target NonStrict in
-    (g, turn_not inputs plan g before after (joined_waiting w cast) cast j.waits j.leads back,
-    j.leads, j.waits)
+    let g = joined_operand inputs f cast.target NonStrict in (
+      g,
+      turn_not inputs plan g before after (joined_waiting w cast) cast j.waits j.leads back,
+      j.leads,
+      j.waits,
+    )
 
 -- ---- an operation over which nothing waits
 
@@ -344,7 +356,7 @@ fold_level : (inputs : List Column) (plan : Plan) (node : ℕ) (op : UnaryOp) (f
     fold_over inputs plan node op f ≡ with_operation node op f
 fold_level inputs plan node (operations.Cast target options) f level =
     let apart = level_second (step_of inputs f.tree) (step_of inputs (Cast f.tree target options))
-        level in
+    level in
     ap (λ b. turned_cast inputs plan node (if b then under_cast f else f) target options) apart.0
     ∙ ap (λ b. if b && is_type (dtype_of inputs (cast_operand f.tree)) target
     && is_covered plan (number_at f.numbers) then under_cast f else cast_over node f target options)

@@ -4,7 +4,8 @@ use Rattle.std.specs.List.{All}
 use Rattle.col_types.specs.declared.data_type.DataType.{Datetime}
 use Rattle.col_types.specs.declared.cast_options.CastOptions.TheVariants.{Strict, NonStrict}
 use Rattle.col_types.specs.declared.time_unit.TimeUnit.{TimeUnit}
-use Rattle.col_types.specs.declared.time_unit.TimeUnit.TheVariants.{Nanoseconds, Microseconds, Milliseconds}
+use Rattle.col_types.specs.declared.time_unit.TimeUnit.TheVariants.{Nanoseconds, Microseconds}
+use Rattle.col_types.specs.declared.time_unit.TimeUnit.TheVariants.{Milliseconds}
 use Rattle.col_types.specs.declared.is_sorted.IsSorted.TheVariants.{Not}
 use Rattle.col_model.specs.Arithmetic.{Interval}
 use Rattle.col_model.specs.Value.{whole}

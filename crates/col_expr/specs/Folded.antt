@@ -1,16 +1,19 @@
--- The tree that is evaluated in an expression's place: casts from unit to unit are joined, and a cast
--- to a finer unit and back is left out where a valid plan covers it.
-use Rattle.std.specs.Prelude.{◌≡◌, ℕ, Bool, true, false, ◌&&◌, List, [], is_some, Option, Some, None, if◌then◌else◌}
+-- The tree that is evaluated in an expression's place: casts from unit to unit are joined, and a
+-- cast to a finer unit and back is left out where a valid plan covers it.
+use Rattle.std.specs.Prelude.{◌≡◌, ℕ, Bool, true, false, ◌&&◌, List, [], is_some, Option, Some}
+use Rattle.std.specs.Prelude.{None, if◌then◌else◌}
 use Rattle.col_types.specs.DataType.{is_expression_target, same_type}
 use Rattle.col_types.specs.declared.data_type.DataType.{DataType, Datetime, Duration}
 use Rattle.col_types.specs.declared.cast_options.CastOptions.{CastOptions}
-use Rattle.col_types.specs.declared.cast_options.CastOptions.TheVariants.{Strict, NonStrict, Overflowing}
+use Rattle.col_types.specs.declared.cast_options.CastOptions.TheVariants.{Strict, NonStrict}
+use Rattle.col_types.specs.declared.cast_options.CastOptions.TheVariants.{Overflowing}
 use Rattle.col_model.specs.declared.ticks.UnitChange.{UnitChange}
 use Rattle.col_model.specs.declared.ticks.UnitChange.TheVariants.{Finer, Same, Coarser}
 use Rattle.col_model.specs.UnitChange.{unit_change}
 use Rattle.col_model.specs.Column.{Column, IsValidColumn}
 use Rattle.col_expr.specs.Tree.{Tree, Input, Cast, Binary, ScalarRight, ScalarLeft, InUnit, Shift}
-use Rattle.col_expr.specs.Numbers.{Numbers, Over, Join, number_at, below, left_of, right_of, numbers_from}
+use Rattle.col_expr.specs.Numbers.{Numbers, Over, Join, number_at, below, left_of, right_of}
+use Rattle.col_expr.specs.Numbers.{numbers_from}
 use Rattle.col_expr.specs.Meaning.{dtype_of}
 use Rattle.col_expr.specs.Plan.{Plan, interval_in, is_plan_valid}
 
@@ -81,21 +84,21 @@ is_type (Some from) dtype = same_type from dtype
 abbrev pub is_covered : Plan → ℕ → Bool
 is_covered plan node = is_some (interval_in plan node)
 
--- what a cast stands over: where both it and its operand are steps and go on, what the operand stands
--- over
+-- what a cast stands over: where both it and its operand are steps and go on, what the operand
+-- stands over
 abbrev pub joined_operand : List Column → Numbered → DataType → CastOptions → Numbered
 joined_operand inputs operand target options =
     if goes_on (step_of inputs operand.tree) (step_of inputs (Cast operand.tree target options))
     then under_cast operand
     else operand
 
--- a cast of this number over an operand; where it turns back a covered one to the type from which that
--- one led, what both stand over
+-- a cast of this number over an operand; where it turns back a covered one to the type from which
+-- that one led, what both stand over
 abbrev pub turned_cast : List Column → Plan → ℕ → Numbered → DataType → CastOptions → Numbered
 turned_cast inputs plan node operand target options =
     if turns_back (step_of inputs operand.tree) (step_of inputs (Cast operand.tree target options))
-        && is_type (dtype_of inputs (cast_operand operand.tree)) target
-        && is_covered plan (number_at operand.numbers)
+    && is_type (dtype_of inputs (cast_operand operand.tree)) target
+    && is_covered plan (number_at operand.numbers)
     then under_cast operand
     else cast_over node operand target options
 

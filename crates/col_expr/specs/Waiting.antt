@@ -1,5 +1,6 @@
 -- A column over which casts from unit to unit still wait, and the folded tree that it stands for.
-use Rattle.std.specs.Prelude.{◌≡◌, ℕ, ◌+◌, Bool, true, false, ◌&&◌, List, Option, Some, None, Result, Ok, Err, OnOk, if◌then◌else◌}
+use Rattle.std.specs.Prelude.{◌≡◌, ℕ, ◌+◌, Bool, true, false, ◌&&◌, List, Option, Some, None}
+use Rattle.std.specs.Prelude.{Result, Ok, Err, OnOk, if◌then◌else◌}
 use Rattle.col_types.specs.DataType.{same_type}
 use Rattle.col_types.specs.declared.data_type.DataType.{DataType}
 use Rattle.col_types.specs.declared.cast_options.CastOptions.TheVariants.{NonStrict}
@@ -21,7 +22,8 @@ use Rattle.col_expr.specs.Meaning.{dtype_of, step_count}
 use Rattle.col_expr.specs.Refusal.{Unless, first_refusal}
 use Rattle.col_expr.specs.Found.{IsFine, IsFound}
 use Rattle.col_expr.specs.Plan.{Plan}
-use Rattle.col_expr.specs.Folded.{Numbered, unit_step_for, step_of, cast_over, fold_cast, is_covered}
+use Rattle.col_expr.specs.Folded.{Numbered, unit_step_for, step_of, cast_over, fold_cast}
+use Rattle.col_expr.specs.Folded.{is_covered}
 
 -- ---- casts that wait
 

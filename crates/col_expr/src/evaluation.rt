@@ -98,7 +98,12 @@ pub(crate) fn counted<L: Ledger>(
     }
 }
 
-pub(crate) fn input_column(alloc: Global, inputs: &Inputs, index: u32, node: u32) -> Result<Series, EvalError>
+pub(crate) fn input_column(
+    alloc: Global,
+    inputs: &Inputs,
+    index: u32,
+    node: u32,
+) -> Result<Series, EvalError>
     ensures found { IsFound (columns_of inputs.now) (One node) (Input index) result }
 {
     match inputs.get(index) {

@@ -71,12 +71,7 @@ fn shows(column: &Series, wanted: &[Option<i64>]) -> Result<(), Fail> {
 }
 
 // Under no plan, and under one that is false.
-fn folds(
-    alloc: Global,
-    inputs: &Inputs,
-    expr: Expr,
-    wanted: &[Option<i64>],
-) -> Result<(), Fail> {
+fn folds(alloc: Global, inputs: &Inputs, expr: Expr, wanted: &[Option<i64>]) -> Result<(), Fail> {
     shows(&answer(alloc, &expr, inputs, &plan(alloc, &[])?)?, wanted)?;
     let untrue = plan(alloc, &[(1, 0, 9), (77, 0, 9)])?;
     shows(&answer(alloc, &expr, inputs, &untrue)?, wanted)

@@ -44,7 +44,8 @@ pub fn evaluate_folded<L: Ledger>(
 ) -> Result<Series, EvalError>
     ensures outcome { GivesBy column_of result (outcome (columns_of inputs.now) expr.now) }
     ensures steps { OnOk result (steps.new ≡ steps.old
-        + step_count (columns_of inputs.now) (folded (columns_of inputs.now) plan.now expr.now).tree) }
+        + step_count (columns_of inputs.now)
+        (folded (columns_of inputs.now) plan.now expr.now).tree) }
 {
     inputs.known();
     let valid = check_plan(expr, inputs, plan);

@@ -24,7 +24,11 @@ fn column(alloc: Global, dtype: DataType, slots: &[Option<i128>]) -> Result<Seri
     Ok(Series::from_slots(alloc, name, &dtype, slots)?)
 }
 
-pub(crate) fn one_input(alloc: Global, unit: TimeUnit, slots: &[Option<i128>]) -> Result<Inputs, Fail>
+pub(crate) fn one_input(
+    alloc: Global,
+    unit: TimeUnit,
+    slots: &[Option<i128>],
+) -> Result<Inputs, Fail>
     ensures one { IfOk result (λ inputs. length inputs ≡ 1) }
 {
     let column = column(alloc, moments(unit), slots)?;
@@ -56,7 +60,12 @@ pub(crate) fn built(answer: Result<Expr, ExprRefused>) -> Result<Expr, Fail> {
     }
 }
 
-pub(crate) fn cast(alloc: Global, operand: Expr, dtype: DataType, options: CastOptions) -> Result<Expr, Fail>
+pub(crate) fn cast(
+    alloc: Global,
+    operand: Expr,
+    dtype: DataType,
+    options: CastOptions,
+) -> Result<Expr, Fail>
     requires built { is_built_cast dtype ≡ true }
 {
     built(Expr::cast(alloc, operand, dtype, options))

@@ -16,19 +16,20 @@ returns-in_err-below-in-Unary-clause-folded g t c =
     c.args.next.now c.in-Unary.operation (node_tree c.in-Unary.operand.value) _
     (rw c.deref.ensures at c.in_err-below-in-Unary.ensures.folded))
 
-pub returns-in_ok-right-in-Binary-2-clause-folded : goal.returns-in_ok-right-in-Binary-2-clause-folded
+pub returns-in_ok-right-in-Binary-2-clause-folded :
+    goal.returns-in_ok-right-in-Binary-2-clause-folded
 returns-in_ok-right-in-Binary-2-clause-folded g t c =
     let inputs = columns_of c.args.inputs.now in
     let plan = plan_if c.args.valid c.args.plan.now in
     let l = node_tree c.in-Binary.left.value in
     let r = node_tree c.in-Binary.right.value in
     let left = c.in_ok-left-in-Binary-2.ensures.ready inputs
-        (folded_by inputs plan (numbers_from c.args.next.now l) l) c.args.steps.now
-        (rw c.deref-in-Binary.ensures at c.in_ok-left-in-Binary.ensures.folded) in
+    (folded_by inputs plan (numbers_from c.args.next.now l) l) c.args.steps.now
+    (rw c.deref-in-Binary.ensures at c.in_ok-left-in-Binary.ensures.folded) in
     let right = c.in_ok-right-in-Binary-2.ensures.ready inputs
-        (folded_by inputs plan (numbers_from c.fold_node-in-Binary.new.next r) r)
-        c.settled.new.steps
-        (rw c.deref-in-Binary-2.ensures at c.in_ok-right-in-Binary.ensures.folded) in
+    (folded_by inputs plan (numbers_from c.fold_node-in-Binary.new.next r) r)
+    c.settled.new.steps
+    (rw c.deref-in-Binary-2.ensures at c.in_ok-right-in-Binary.ensures.folded) in
     rw c.in-Binary.is
     (node_both inputs plan c.args.next.now c.fold_node-in-Binary.new.next
     c.take_number-number-in-Binary.result c.in-Binary.op l r c.args.steps.now c.counted.new.steps

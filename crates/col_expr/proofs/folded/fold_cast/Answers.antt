@@ -18,5 +18,6 @@ returns-in-Ok c = record {
       rw (c.in-Ok.ensures.ok, c.joined-below.ensures.joined)
       (fold_over_it inputs (plan_if c.args.valid c.args.plan.now) operand before after c.args.below
       c.args.cast is leads
-      (rw c.joined-below.ensures.joined at (sym c.turns_back.ensures.back ∙ c.if-turns_back.false)));
+      (rw c.joined-below.ensures.joined at (sym c.turns_back.ensures.back
+      ∙ c.if-turns_back.false)));
 }
