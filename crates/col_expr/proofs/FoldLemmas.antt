@@ -16,6 +16,7 @@ use Rattle.col_expr.specs.declared.error.EvalError.{EvalError}
 use Rattle.col_expr.specs.Tree.{Tree, Input, Cast, Binary, ScalarRight, ScalarLeft, InUnit, Shift}
 use Rattle.col_expr.specs.Tree.{node_count}
 use Rattle.col_expr.specs.Numbers.{Numbers, Over, number_at, below, left_of, right_of, numbers_from}
+use Rattle.col_expr.specs.Built.{is_built_tree}
 use Rattle.col_expr.specs.Meaning.{dtype_of, slot_at}
 use Rattle.col_expr.specs.Refusal.{refusal_at, first_refusal, outcome_by, outcome}
 use Rattle.col_expr.specs.Plan.{Plan, rule_holds, rules_hold, ends_before, is_plan_valid}
@@ -425,30 +426,31 @@ no_rules inputs numbers (InUnit e unit) = rw (no_rules inputs (below numbers) e)
 no_rules inputs numbers (Shift e periods) = rw (no_rules inputs (below numbers) e) refl
 
 trusted_by : ValidPlansAreKept → (inputs : List Column) (plan : Plan) (tree : Tree) →
-    All IsValidColumn inputs → (valid : Bool) → is_plan_valid inputs plan tree ≡ valid →
+    All IsValidColumn inputs → is_built_tree tree ≡ true → (valid : Bool) →
+    is_plan_valid inputs plan tree ≡ valid →
     IsTrusted inputs (plan_if valid plan) (numbers_from 0 tree) tree
-trusted_by law inputs plan tree columns true h = record {
+trusted_by law inputs plan tree columns built true h = record {
   rules = (and_parts (rules_hold inputs plan (numbers_from 0 tree) tree)
       (ends_before plan (node_count tree)) h).0;
-  kept = law inputs plan tree columns h;
+  kept = law inputs plan tree columns built h;
 }
-trusted_by law inputs plan tree columns false h = record {
+trusted_by law inputs plan tree columns built false h = record {
   rules = no_rules inputs (numbers_from 0 tree) tree;
   kept = λ k d lt range is. cc;
 }
 
 -- the folded tree of an expression has its column and its first refusal
-pub folded_whole : ValidPlansAreKept → (inputs : List Column) (plan : Plan) (tree : Tree) →
-    All IsValidColumn inputs →
+folded_whole : ValidPlansAreKept → (inputs : List Column) (plan : Plan) (tree : Tree) →
+    All IsValidColumn inputs → is_built_tree tree ≡ true →
     IsFoldedAs inputs (plan_if (is_plan_valid inputs plan tree) plan) (numbers_from 0 tree)
     (folded inputs plan tree) tree
-folded_whole law inputs plan tree columns =
+folded_whole law inputs plan tree columns built =
     folded_good inputs (plan_if (is_plan_valid inputs plan tree) plan) (numbers_from 0 tree) tree
-    (trusted_by law inputs plan tree columns (is_plan_valid inputs plan tree) refl)
+    (trusted_by law inputs plan tree columns built (is_plan_valid inputs plan tree) refl)
 
 -- folding changes no answer
 pub folding_good : ValidPlansAreKept → FoldingChangesNoAnswer
-folding_good law inputs plan tree columns =
-    let is = folded_whole law inputs plan tree columns in
+folding_good law inputs plan tree columns built =
+    let is = folded_whole law inputs plan tree columns built in
     λ i. unless_refused (is.refused i)
     (same_column inputs (folded inputs plan tree).tree tree is.same i)

@@ -23,11 +23,11 @@ use Rattle.col_expr.specs.declared.waiting.Waiting.TheVariants as waitings
 use Rattle.col_expr.specs.Tree.{Tree, Cast}
 use Rattle.col_expr.specs.Node.{over}
 use Rattle.col_expr.specs.Numbers.{Numbers, Over, number_at, below}
+use Rattle.col_expr.specs.Built.{is_built_tree}
 use Rattle.col_expr.specs.Meaning.{dtype_of, step_count, result_column}
 use Rattle.col_expr.specs.Refusal.{GivesBy, outcome_by, outcome}
 use Rattle.col_expr.specs.Found.{IsColumnOf, IsFine, IsFound, unary_at}
 use Rattle.col_expr.specs.Plan.{Plan}
-use Rattle.col_expr.specs.PlanLaws.{ValidPlansAreKept}
 use Rattle.col_expr.specs.Folded.{Numbered, step_of, goes_on, turns_back, is_type, is_covered}
 use Rattle.col_expr.specs.Folded.{cast_operand, under_cast, cast_over, joined_operand, turned_cast}
 use Rattle.col_expr.specs.Folded.{fold_cast, folded_by, folded}
@@ -40,6 +40,7 @@ use Rattle.col_expr.proofs.FoldFacts.{Facts, facts}
 use Rattle.col_expr.proofs.FoldSteps.{OneWay, goes_on-parts, some_is, step_is, step_told}
 use Rattle.col_expr.proofs.FoldSteps.{joined_step}
 use Rattle.col_expr.proofs.FoldLemmas.{folding_good}
+use Rattle.col_expr.proofs.PlanKeptLemmas.{valid_plans_are_kept}
 
 -- ---- what is done
 
@@ -90,12 +91,13 @@ found_outcome inputs numbers t (Ok c) found =
 found_outcome inputs numbers t (Err error) found =
     Unless-map error (λ h. ap (λ refused. unless_refused refused (result_column inputs t)) h) found
 
-pub folded_outcome : ValidPlansAreKept → (inputs : List Column) (plan : Plan) (tree : Tree)
-    (answer : Result Chunked EvalError) → All IsValidColumn inputs →
+pub folded_outcome : (inputs : List Column) (plan : Plan) (tree : Tree)
+    (answer : Result Chunked EvalError) → All IsValidColumn inputs → is_built_tree tree ≡ true →
     IsFound inputs (folded inputs plan tree).numbers (folded inputs plan tree).tree answer →
     GivesBy column_of answer (outcome inputs tree)
-folded_outcome law inputs plan tree answer columns found =
-    subst (GivesBy column_of answer) (folding_good law inputs plan tree columns)
+folded_outcome inputs plan tree answer columns built found =
+    subst (GivesBy column_of answer)
+    (folding_good valid_plans_are_kept inputs plan tree columns built)
     (found_outcome inputs (folded inputs plan tree).numbers (folded inputs plan tree).tree answer
     found)
 

@@ -1,5 +1,5 @@
 -- That folding changes no answer, and steps by hand.
-use Rattle.std.specs.Prelude.{◌≡◌, ℕ, ℤ, pos, ◌^◌, ◌-◌, List, [], ◌∷◌, map, codes, Some, None}
+use Rattle.std.specs.Prelude.{◌≡◌, true, ℕ, ℤ, pos, ◌^◌, ◌-◌, List, [], ◌∷◌, map, codes, Some, None}
 use Rattle.std.specs.List.{All}
 use Rattle.col_types.specs.declared.data_type.DataType.{Datetime}
 use Rattle.col_types.specs.declared.cast_options.CastOptions.TheVariants.{Strict, NonStrict}
@@ -11,15 +11,18 @@ use Rattle.col_model.specs.Arithmetic.{Interval}
 use Rattle.col_model.specs.Value.{whole}
 use Rattle.col_model.specs.Column.{Column, IsValidColumn}
 use Rattle.col_expr.specs.Tree.{Tree, Input, Cast, Shift}
+use Rattle.col_expr.specs.Built.{is_built_tree}
 use Rattle.col_expr.specs.Meaning.{step_count}
 use Rattle.col_expr.specs.Plan.{Plan}
 use Rattle.col_expr.specs.Refusal.{outcome_by, outcome}
 use Rattle.col_expr.specs.Folded.{folded}
 
--- the folded tree has the column of the whole tree, or its first refused node, under every plan
+-- the folded tree has the column of the whole tree, or its first refused node, under every plan, if
+-- an expression can hold the tree
 abbrev pub FoldingChangesNoAnswer : Type 0
 FoldingChangesNoAnswer =
     (inputs : List Column) (plan : Plan) (tree : Tree) → All IsValidColumn inputs →
+    is_built_tree tree ≡ true →
     outcome_by inputs (folded inputs plan tree).numbers (folded inputs plan tree).tree
     ≡ outcome inputs tree
 
