@@ -45,18 +45,18 @@ cornered a b c d u w v first second (inr (l, h)) = record {
 
 -- ---- each form
 
-sum_within : (p q : Interval) (x y : ℤ) → IsWithin p x → IsWithin q y
+pub sum_within : (p q : Interval) (x y : ℤ) → IsWithin p x → IsWithin q y
     → IsWithin (record { low = p.low +ℤ q.low; high = p.high +ℤ q.high }) (x +ℤ y)
 sum_within p q x y u v = record { low = omega (arith, ints, u.low, v.low); high = omega (arith, ints, u.high, v.high) }
 
-difference_within : (p q : Interval) (x y : ℤ) → IsWithin p x → IsWithin q y
+pub difference_within : (p q : Interval) (x y : ℤ) → IsWithin p x → IsWithin q y
     → IsWithin (record { low = p.low -ℤ q.high; high = p.high -ℤ q.low }) (x -ℤ y)
 difference_within p q x y u v = record { low = omega (arith, ints, u.low, v.high); high = omega (arith, ints, u.high, v.low) }
 
 product_turn : (x c d y : ℤ) → c ≤ℤ y → y ≤ℤ d → Between (x *ℤ c) (x *ℤ d) (x *ℤ y)
 product_turn x c d y l h = rw (*ℤ_comm x c, *ℤ_comm x d, *ℤ_comm x y) (product_between c d y x l h)
 
-product_within : (p q : Interval) (x y : ℤ) → IsWithin p x → IsWithin q y → IsWithin (at_ends ◌*ℤ◌ p q) (x *ℤ y)
+pub product_within : (p q : Interval) (x y : ℤ) → IsWithin p x → IsWithin q y → IsWithin (at_ends ◌*ℤ◌ p q) (x *ℤ y)
 product_within p q x y u v =
     cornered _ _ _ _ _ _ _ (product_turn p.low q.low q.high y v.low v.high)
     (product_turn p.high q.low q.high y v.low v.high) (product_between p.low p.high x y u.low u.high)
@@ -73,7 +73,7 @@ trunc_within p q x y none u v =
     cornered _ _ _ _ _ _ _ (trunc_turn p.low q.low q.high y v.low v.high none)
     (trunc_turn p.high q.low q.high y v.low v.high none) (trunc_between p.low p.high x y u.low u.high)
 
-truth_within : (x : ℤ) → IsWithin (record { low = pos 0; high = pos 1 }) (truth_of x)
+pub truth_within : (x : ℤ) → IsWithin (record { low = pos 0; high = pos 1 }) (truth_of x)
 truth_within (pos zero) = record { low = omega (arith, ints); high = omega (arith, ints) }
 truth_within (pos (suc n)) = record { low = omega (arith, ints); high = omega (arith, ints) }
 truth_within (negsuc n) = record { low = omega (arith, ints); high = omega (arith, ints) }
@@ -107,13 +107,13 @@ rest_within q (negsuc k) rest false test none v there short =
 
 -- ---- intervals that there are, taken apart
 
-some_both : (g : Interval → Interval → Option Interval) (o q : Option Interval) (r : Interval)
+pub some_both : (g : Interval → Interval → Option Interval) (o q : Option Interval) (r : Interval)
     → on_intervals g o q ≡ Some r → (a : Interval) × (b : Interval) × (o ≡ Some a) × (q ≡ Some b) × (g a b ≡ Some r)
 some_both g None q r h = cc
 some_both g (Some a) None r h = cc
 some_both g (Some a) (Some b) r h = (a, b, refl, refl, h)
 
-some_map : (g : Interval → Interval) (o : Option Interval) (r : Interval) → option_map g o ≡ Some r
+pub some_map : (g : Interval → Interval) (o : Option Interval) (r : Interval) → option_map g o ≡ Some r
     → (a : Interval) × (o ≡ Some a) × (g a ≡ r)
 some_map g None r h = cc
 some_map g (Some a) r h = let e : g a ≡ r = cc in (a, refl, e)

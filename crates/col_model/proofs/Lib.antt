@@ -8,3 +8,5 @@ pub mod WordLemmas
 pub mod IntervalLemmas
 pub mod RoomLemmas
 pub mod TickIntervalLemmas
+pub mod ReachLemmas
+pub mod RuleLemmas

@@ -42,7 +42,7 @@ wrapped_value-within (Unsigned w) x h =
     unsigned-wrap (bit_len w) x ((unsigned-bounds (bit_len w) x).1 (u.low, u.high))
 
 -- what is kept lies in the word's values
-kept_in_word : (word : WordType) (x : ℤ) → is_within (word_values word) (wrapped_value word x) ≡ true
+pub kept_in_word : (word : WordType) (x : ℤ) → is_within (word_values word) (wrapped_value word x) ≡ true
 unfolding wrapped_value
 kept_in_word (Signed w) x =
     let kept = wrap_signed w x in

@@ -19,3 +19,4 @@ pub mod KnownWords
 pub mod IntervalLaws
 pub mod IntervalRoom
 pub mod RuleIntervals
+pub mod RuleLaws

@@ -5,6 +5,9 @@ ghost use Rattle.col_types.specs.declared.data_type.DataType.{Duration};
 ghost use Rattle.col_model.specs.Laws.{KnownDatetimes, KnownDurations, KnownCasts, KnownJoins};
 ghost use Rattle.col_model.specs.Arithmetic.{WordType, word_values, wrapped_value, rescaled_value};
 ghost use Rattle.col_model.specs.IntervalLaws.{DivisionsRoundDown, TruncatesDivisions};
+ghost use Rattle.col_model.specs.RuleLaws.{CastsGiveValues, OperatorsGiveValues};
+ghost use Rattle.col_model.specs.RuleLaws.{RightScalarsGiveValues, LeftScalarsGiveValues};
+ghost use Rattle.col_model.specs.RuleLaws.{UnitChangesGiveValues};
 ghost use Rattle.col_model.specs.IntervalLaws.{DividesByPositive, IsKeptOf, IntervalsHold};
 ghost use Rattle.col_model.specs.UnitLaws.{ComesBack, IsOneCast, is_no_coarser, is_no_finer};
 ghost use Rattle.col_model.specs.UnitLaws.{moments, clock_unit};
@@ -126,4 +129,13 @@ pub fn words_keep()
 /// A formula that has an interval loses no value, wraps none, and gives none outside it.
 pub fn intervals_hold()
     ensures law { IntervalsHold }
+{}
+
+/// Each rule of the tables gives values of its answer's type.
+pub fn rules_give_values()
+    ensures casts { CastsGiveValues }
+    ensures operators { OperatorsGiveValues }
+    ensures right_scalars { RightScalarsGiveValues }
+    ensures left_scalars { LeftScalarsGiveValues }
+    ensures unit_changes { UnitChangesGiveValues }
 {}
