@@ -8,3 +8,5 @@ pub mod InputsLemmas
 pub mod DefinedLemmas
 pub mod CauseLemmas
 pub mod PlanNodeLemmas
+pub mod FormulaLemmas
+pub mod PlanKeptLemmas

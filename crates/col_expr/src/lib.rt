@@ -12,6 +12,7 @@ mod node_image;
 mod operations;
 mod part;
 mod plan;
+mod plan_laws;
 mod steps;
 #[cfg(test)]
 mod tests;
@@ -29,4 +30,5 @@ pub use laws::{
 };
 pub use node::UnaryOp;
 pub use plan::RangePlan;
+pub use plan_laws::valid_plans_are_kept;
 pub use steps::Steps;
