@@ -213,6 +213,7 @@ cast_fits inputs e target o dtype from cast typed fits is =
   where
     some_same : (a b : DataType) → Some a ≡ Some b → a ≡ b
     some_same a b e = cc
+
     by_rule : (rule : Option CastRule) → cast_rule from target o ≡ rule → resolved_target from target ≡ target → is_built target ≡ true → SlotsFit inputs (Cast e target o) target
     by_rule None at settled built = record {
       built = built;
@@ -252,10 +253,13 @@ scalar_fits inputs tree e dtype from k o has typed fits is formula operands buil
   where
     at : formula_for inputs tree ≡ (if is_scalar_of from k then rule_formula o else None)
     at = formula ∙ ap (λ d. scalar_formula d k o) typed
+
     left : (row : ℕ) (value : Value) → (operands_at inputs tree row).0 ≡ Some value → is_value_in (values_of from) value ≡ true
     left row value s = fits.values row value (ap (λ p. p.0) (sym (operands row)) ∙ s)
+
     right : (row : ℕ) (value : Value) → (operands_at inputs tree row).1 ≡ Some value → is_value_in (values_of from) value ≡ true
     right row value s = fits.values row value (ap (λ p. p.1) (sym (operands row)) ∙ s)
+
     go : (b : Bool) → is_scalar_of from k ≡ b → SlotsFit inputs tree dtype
     go false no_scalar = record {
       built = built (some_map (λ (r : OperatorRule). r.dtype) o dtype is).0 (some_map (λ (r : OperatorRule). r.dtype) o dtype is).1;

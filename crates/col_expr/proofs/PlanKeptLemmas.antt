@@ -79,9 +79,9 @@ image_holds inputs tree row p q image value has e u v s =
     let formula = sym (slot-formula inputs tree row has) ∙ s in
     let t = formula_there f (operands_at inputs tree row) value formula in
     let X = exact_given f p q image (whole t.1) (whole t.2) e
-        (λ range w b o. u range w b (t.5 ∙ o)) (λ range w b o. v range w b (t.6 ∙ o)) in
+    (λ range w b o. u range w b (t.5 ∙ o)) (λ range w b o. v range w b (t.6 ∙ o)) in
     let both : formula_slot f (Some (whole t.1), Some (whole t.2)) ≡ Some value =
-        ap (λ o. formula_slot f (o, Some (whole t.2))) (sym t.5) ∙ ap (λ o. formula_slot f ((operands_at inputs tree row).0, o)) (sym t.6) ∙ formula in
+    ap (λ o. formula_slot f (o, Some (whole t.2))) (sym t.5) ∙ ap (λ o. formula_slot f ((operands_at inputs tree row).0, o)) (sym t.6) ∙ formula in
     let same : whole X.value ≡ value = some_same (whole X.value) value (sym X.slot ∙ both) in
     ap (is_value_in (Some image)) (sym same) ∙ X.within
   where
@@ -137,20 +137,23 @@ formula_node : (inputs : List Column) (plan : Plan) (numbers : Numbers) (tree : 
     → ((range : Interval) → is_kept_within inputs plan numbers tree range ≡ is_image_inside range (image_by (formula_for inputs tree) p q))
     → ((row : ℕ) → LiesIn p (operands_at inputs tree row).0) → ((row : ℕ) → LiesIn q (operands_at inputs tree row).1)
     → IsBounded inputs plan numbers tree × IsKeptBy inputs plan (numbers, tree)
-formula_node inputs plan numbers tree p q all built has rule within u v =
-    (bounded_by_rule inputs plan numbers tree all built lies, λ range is. record {
-      within = λ row value s. lies range row value is s;
-      exact = λ row x y at.
-          let i = inner range is in
-          let X = exact_given (formula_for inputs tree) p q i.0 x y i.1
-              (λ r w b o. u row r w b (ap (λ t. t.0) at ∙ o)) (λ r w b o. v row r w b (ap (λ t. t.1) at ∙ o)) in
-          (X.value, slot-formula inputs tree row has ∙ ap (formula_slot (formula_for inputs tree)) at ∙ X.slot, X.exact);
-    })
+formula_node inputs plan numbers tree p q all built has rule within u v = (
+  bounded_by_rule inputs plan numbers tree all built lies,
+  λ range is. record {
+    within = λ row value s. lies range row value is s;
+    exact = λ row x y at.
+        let i = inner range is in
+        let X = exact_given (formula_for inputs tree) p q i.0 x y i.1
+        (λ r w b o. u row r w b (ap (λ t. t.0) at ∙ o)) (λ r w b o. v row r w b (ap (λ t. t.1) at ∙ o)) in
+        (X.value, slot-formula inputs tree row has ∙ ap (formula_slot (formula_for inputs tree)) at ∙ X.slot, X.exact);
+  },
+)
   where
     inner : (range : Interval) → interval_in plan (number_at numbers) ≡ Some range → (i : Interval) × (image_by (formula_for inputs tree) p q ≡ Some i) × (is_inside range i ≡ true)
     inner range is =
         image_inside_there range (image_by (formula_for inputs tree) p q)
         (sym (within range) ∙ covered_range inputs plan numbers tree (interval_in plan (number_at numbers)) range rule is)
+
     lies : (range : Interval) (row : ℕ) (value : Value) → interval_in plan (number_at numbers) ≡ Some range → slot_at inputs tree row ≡ Some value → is_value_in (Some range) value ≡ true
     lies range row value is s =
         let i = inner range is in
@@ -175,11 +178,13 @@ plain_node : (inputs : List Column) (plan : Plan) (numbers : Numbers) (tree : Tr
     → ((row : ℕ) → operands_at inputs tree row ≡ (None, None))
     → ((range : Interval) (row : ℕ) (value : Value) → interval_in plan (number_at numbers) ≡ Some range → slot_at inputs tree row ≡ Some value → is_value_in (Some range) value ≡ true)
     → IsBounded inputs plan numbers tree × IsKeptBy inputs plan (numbers, tree)
-plain_node inputs plan numbers tree all built none lies =
-    (bounded_by_rule inputs plan numbers tree all built lies, λ range is. record {
-      within = λ row value s. lies range row value is s;
-      exact = λ row x y at. no_value x (ap (λ (t : Option Value × Option Value). t.0) (sym (none row)) ∙ ap (λ (t : Option Value × Option Value). t.0) at);
-    })
+plain_node inputs plan numbers tree all built none lies = (
+  bounded_by_rule inputs plan numbers tree all built lies,
+  λ range is. record {
+    within = λ row value s. lies range row value is s;
+    exact = λ row x y at. no_value x (ap (λ (t : Option Value × Option Value). t.0) (sym (none row)) ∙ ap (λ (t : Option Value × Option Value). t.0) at);
+  },
+)
 
 -- ---- the induction
 
@@ -195,8 +200,8 @@ over_one inputs plan numbers tree nodes node all is = record {
 kept_part : (inputs : List Column) (plan : Plan) → All IsValidColumn inputs → (tree : Tree) (numbers : Numbers) → is_built_tree tree ≡ true → rules_hold inputs plan numbers tree ≡ true → IsKeptPart inputs plan numbers tree
 kept_part inputs plan all (Input index) numbers built rules =
     let node = plain_node inputs plan numbers (Input index) all built (λ row. refl)
-        (λ range row value is s. column_within_there range (slice_get inputs index) row value
-        (covered_range inputs plan numbers (Input index) (interval_in plan (number_at numbers)) range rules is) s) in
+    (λ range row value is s. column_within_there range (slice_get inputs index) row value
+    (covered_range inputs plan numbers (Input index) (interval_in plan (number_at numbers)) range rules is) s) in
     record { bounded = node.0; kept = one_kept inputs plan numbers (Input index) node.1 }
 kept_part inputs plan all (Cast e t o) numbers built rules =
     let parts = and_parts (is_built_cast t) (is_built_tree e) built in
@@ -213,8 +218,8 @@ kept_part inputs plan all (Binary op l r) numbers built rules =
     let L = kept_part inputs plan all l (left_of numbers) parts.0 held.0 in
     let R = kept_part inputs plan all r (right_of numbers) parts.1 rest.0 in
     let node = formula_node inputs plan numbers (Binary op l r) (bound_of inputs plan (left_of numbers) l) (bound_of inputs plan (right_of numbers) r) all built tt rest.1 (λ range. refl)
-        (λ row range value b s. L.bounded range (operand_row (row_count inputs l) row) value b s)
-        (λ row range value b s. R.bounded range (operand_row (row_count inputs r) row) value b s) in
+    (λ row range value b s. L.bounded range (operand_row (row_count inputs l) row) value b s)
+    (λ row range value b s. R.bounded range (operand_row (row_count inputs r) row) value b s) in
     record {
       bounded = node.0;
       kept = All-append (IsKeptBy inputs plan) (numbered_nodes (left_of numbers) l) (numbered_nodes (right_of numbers) r ++ (numbers, Binary op l r) ∷ []) L.kept
@@ -245,9 +250,9 @@ kept_part inputs plan all (Shift e p) numbers built rules =
     let held = and_parts (rules_hold inputs plan (below numbers) e) (rule_holds inputs plan numbers (Shift e p)) rules in
     let E = kept_part inputs plan all e (below numbers) built held.0 in
     let node = plain_node inputs plan numbers (Shift e p) all built (λ row. refl)
-        (λ range row value is s.
-        let i = image_inside_there range (bound_of inputs plan (below numbers) e) (covered_range inputs plan numbers (Shift e p) (interval_in plan (number_at numbers)) range held.1 is) in
-        enclosed range i.0 value i.2 (shifted i.0 i.1 E.bounded (row_before (row_count inputs e) p row) value s)) in
+    (λ range row value is s.
+    let i = image_inside_there range (bound_of inputs plan (below numbers) e) (covered_range inputs plan numbers (Shift e p) (interval_in plan (number_at numbers)) range held.1 is) in
+    enclosed range i.0 value i.2 (shifted i.0 i.1 E.bounded (row_before (row_count inputs e) p row) value s)) in
     over_one inputs plan numbers (Shift e p) (numbered_nodes (below numbers) e) node E.kept refl
   where
     shifted : (i : Interval) → bound_of inputs plan (below numbers) e ≡ Some i → IsBounded inputs plan (below numbers) e → (o : Option ℕ) (value : Value) → option_and_then (slot_at inputs e) o ≡ Some value → is_value_in (Some i) value ≡ true

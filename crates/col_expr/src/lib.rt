@@ -13,6 +13,8 @@ mod operations;
 mod part;
 mod plan;
 mod plan_laws;
+#[cfg(test)]
+mod plan_tests;
 mod steps;
 #[cfg(test)]
 mod tests;
