@@ -26,5 +26,5 @@ pub use col_types::{BinOp, ScalarOp};
 pub use columns::{binary, uncoerced_binary};
 pub use intervals::operator_interval;
 pub use laws::{add_then_subtract, subtract_then_add};
-pub use scalar_intervals::{scalar_left_interval, scalar_right_interval};
 pub use scalar::{scalar_left, scalar_right};
+pub use scalar_intervals::{scalar_left_interval, scalar_right_interval};

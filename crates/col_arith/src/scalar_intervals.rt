@@ -130,12 +130,7 @@ pub fn scalar_right_interval(
 }
 
 /// The same of an integer on the left.
-pub fn scalar_left_interval(
-    dtype: &DataType,
-    k: i128,
-    op: BinOp,
-    p: Interval,
-) -> Option<Interval>
+pub fn scalar_left_interval(dtype: &DataType, k: i128, op: BinOp, p: Interval) -> Option<Interval>
     requires built { is_built_type dtype.now ≡ true }
     requires near { IsNear 63 p }
     requires ordered { IsOrdered p }

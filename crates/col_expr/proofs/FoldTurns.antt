@@ -20,6 +20,7 @@ use Rattle.col_types.proofs.TypeLemmas.{same_type-Decides}
 use Rattle.col_model.specs.Value.{Value, whole}
 use Rattle.col_model.specs.Arithmetic.{Interval}
 use Rattle.col_model.specs.Column.{Column, values_of}
+use Rattle.col_model.specs.Formula.{spanned}
 use Rattle.col_model.specs.CastTable.{cast_rule, resolved_target}
 use Rattle.col_model.specs.ColumnCalls.{first_lost, kept_flag}
 use Rattle.col_model.specs.UnitChange.{unit_change}
@@ -140,6 +141,7 @@ not_finer u v m coarse h = let fine = finer_way u v m h in omega arith
 wide_moments : (u v : TimeUnit) (x y : Option (List ℕ)) (m : ℕ) → unit_change u v ≡ Finer m →
     image_by (cast_formula (cast_rule (Datetime u x) (Datetime v y) NonStrict))
     (values_of (Datetime u x)) (values_of (Datetime u x)) ≡ None
+unfolding spanned
 wide_moments Nanoseconds Nanoseconds x y m h =
     absurd (not_finer Nanoseconds Nanoseconds m (omega arith) h)
 wide_moments Nanoseconds Microseconds x y m h =
@@ -159,6 +161,7 @@ wide_moments Milliseconds Milliseconds x y m h =
 wide_lengths : (u v : TimeUnit) (m : ℕ) → unit_change u v ≡ Finer m →
     image_by (cast_formula (cast_rule (Duration u) (Duration v) NonStrict))
     (values_of (Duration u)) (values_of (Duration u)) ≡ None
+unfolding spanned
 wide_lengths Nanoseconds Nanoseconds m h =
     absurd (not_finer Nanoseconds Nanoseconds m (omega arith) h)
 wide_lengths Nanoseconds Microseconds m h =

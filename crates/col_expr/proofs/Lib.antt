@@ -14,3 +14,6 @@ pub mod FoldLemmas
 pub mod FoldWaiting
 pub mod FoldNodes
 pub mod PlanNodeLemmas
+pub mod FormulaLemmas
+pub mod PlanKeptLemmas
+pub mod FoldRules

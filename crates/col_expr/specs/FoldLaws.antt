@@ -1,7 +1,8 @@
 -- That folding changes no answer, and steps by hand.
-use Rattle.std.specs.Prelude.{◌≡◌, true, ℕ, ℤ, pos, ◌^◌, ◌-◌, List, [], ◌∷◌, map, codes, Some, None}
+use Rattle.std.specs.Prelude.{is_some, ◌≡◌, true, ℕ, ℤ, pos, ◌^◌, ◌-◌, List, [], ◌∷◌, map, codes}
+use Rattle.std.specs.Prelude.{Some, None}
 use Rattle.std.specs.List.{All}
-use Rattle.col_types.specs.declared.data_type.DataType.{Datetime}
+use Rattle.col_types.specs.declared.data_type.DataType.{DataType, Datetime}
 use Rattle.col_types.specs.declared.cast_options.CastOptions.TheVariants.{Strict, NonStrict}
 use Rattle.col_types.specs.declared.time_unit.TimeUnit.{TimeUnit}
 use Rattle.col_types.specs.declared.time_unit.TimeUnit.TheVariants.{Nanoseconds, Microseconds}
@@ -12,10 +13,10 @@ use Rattle.col_model.specs.Value.{whole}
 use Rattle.col_model.specs.Column.{Column, IsValidColumn}
 use Rattle.col_expr.specs.Tree.{Tree, Input, Cast, Shift}
 use Rattle.col_expr.specs.Built.{is_built_tree}
-use Rattle.col_expr.specs.Meaning.{step_count}
+use Rattle.col_expr.specs.Meaning.{dtype_of, slot_at, result_column, step_count}
 use Rattle.col_expr.specs.Plan.{Plan}
 use Rattle.col_expr.specs.Refusal.{outcome_by, outcome}
-use Rattle.col_expr.specs.Folded.{folded}
+use Rattle.col_expr.specs.Folded.{step_of, goes_on, turns_back, is_type, folded}
 
 -- the folded tree has the column of the whole tree, or its first refused node, under every plan, if
 -- an expression can hold the tree
@@ -25,6 +26,32 @@ FoldingChangesNoAnswer =
     is_built_tree tree ≡ true →
     outcome_by inputs (folded inputs plan tree).numbers (folded inputs plan tree).tree
     ≡ outcome inputs tree
+
+-- ---- the two rules
+
+-- a cast from unit to unit, null where a value has no room there
+abbrev pub cast_to : Tree → DataType → Tree
+cast_to operand target = Cast operand target NonStrict
+
+-- two casts that go on have the column of the one, its sorted flag too
+abbrev pub JoinedCastsAreOne : Type 0
+JoinedCastsAreOne =
+    (inputs : List Column) (tree : Tree) (between target : DataType) →
+    goes_on (step_of inputs (cast_to tree between))
+    (step_of inputs (cast_to (cast_to tree between) target)) ≡ true →
+    result_column inputs (cast_to (cast_to tree between) target)
+    ≡ result_column inputs (cast_to tree target)
+
+-- a cast to a finer unit that loses no slot, and one back, give the column, its sorted flag too
+abbrev pub TurnedCastsGiveBack : Type 0
+TurnedCastsGiveBack =
+    (inputs : List Column) (tree : Tree) (between target : DataType) →
+    turns_back (step_of inputs (cast_to tree between))
+    (step_of inputs (cast_to (cast_to tree between) target)) ≡ true →
+    is_type (dtype_of inputs tree) target ≡ true →
+    ((row : ℕ) → is_some (slot_at inputs tree row) ≡ true →
+    is_some (slot_at inputs (cast_to tree between) row) ≡ true) →
+    result_column inputs (cast_to (cast_to tree between) target) ≡ result_column inputs tree
 
 -- ---- by hand
 
@@ -37,9 +64,9 @@ in_milliseconds ticks = record {
   flag = Not;
 } ∷ []
 
--- moments in another unit, null where a value has no room there
+-- moments in another unit
 abbrev pub to : TimeUnit → Tree → Tree
-to unit operand = Cast operand (Datetime unit None) NonStrict
+to unit operand = cast_to operand (Datetime unit None)
 
 -- the steps of the folded tree
 abbrev pub folded_steps : List Column → Plan → Tree → ℕ

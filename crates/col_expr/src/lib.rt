@@ -16,6 +16,9 @@ mod node_image;
 mod operations;
 mod part;
 mod plan;
+mod plan_laws;
+#[cfg(test)]
+mod plan_tests;
 mod steps;
 #[cfg(test)]
 mod tests;
@@ -27,7 +30,7 @@ pub use col_types::{BinOp, ScalarOp};
 pub use error::{EvalError, ExprCause, ExprRefused};
 pub use evaluation::evaluate;
 pub use expr::Expr;
-pub use fold_laws::{folding_changes_no_answer, known_folds};
+pub use fold_laws::{folding_changes_no_answer, known_folds, rules_of_folding};
 pub use folded::evaluate_folded;
 pub use inputs::Inputs;
 pub use laws::{
@@ -36,4 +39,5 @@ pub use laws::{
 };
 pub use node::UnaryOp;
 pub use plan::RangePlan;
+pub use plan_laws::valid_plans_are_kept;
 pub use steps::Steps;

@@ -85,7 +85,7 @@ pub apart_multiply : (p q : Interval) (k : ℕ) → IsNear 63 p → IsNear 63 q 
     Multiply (record { low = p.low -ℤ q.high; high = p.high -ℤ q.low }) (only (pos k))
 apart_multiply p q k u v h =
     let near : IsNear 64 (record { low = p.low -ℤ q.high; high = p.high -ℤ q.low }) =
-        record { low = apart_near p.low q.high u.low v.high; high = apart_near p.high q.low u.high v.low } in
+    record { low = apart_near p.low q.high u.low v.high; high = apart_near p.high q.low u.high v.low } in
     near_multiply 64 62 (record { low = p.low -ℤ q.high; high = p.high -ℤ q.low }) (only (pos k)) (omega arith) near
     (only_near 62 k h)
   where

@@ -39,10 +39,7 @@ fn times_of(day: u64, nanos: u32) -> Interval
 }
 
 /// The ticks that a rule gives, none where it may lose or wrap one.
-#[tactic(auto, using(
-    col_model::proofs::TickIntervalLemmas::wrapped_moment,
-    col_model::proofs::TickIntervalLemmas::wrapped_length,
-))]
+#[tactic(auto, using(col_model::proofs::TickIntervalLemmas::wrapped_moment, col_model::proofs::TickIntervalLemmas::wrapped_length,))]
 fn rule_interval(rule: TickRule, p: Interval) -> Option<Interval>
     requires near { IsNear 63 p }
     requires proper { IsProper rule }

@@ -8,8 +8,8 @@ pub returns-in-Ok-clause-outcome : goal.returns-in-Ok-clause-outcome
 returns-in-Ok-clause-outcome g c =
     let inputs = columns_of c.args.inputs.now in
     let ready = c.settled.ensures.ready inputs (folded inputs c.args.plan.now c.args.expr.now)
-        c.args.steps.now
-        (rw (c.check_plan-valid.ensures.valid, c.root.ensures.tree) at c.in-Ok.ensures.folded) in
+    c.args.steps.now
+    (rw (c.check_plan-valid.ensures.valid, c.root.ensures.tree) at c.in-Ok.ensures.folded) in
     folded_outcome inputs c.args.plan.now c.args.expr.now c.settled.result
     c.known.ensures.valid c.root.ensures.built ready.found
 
