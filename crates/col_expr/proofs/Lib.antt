@@ -7,4 +7,13 @@ pub mod BinaryLemmas
 pub mod InputsLemmas
 pub mod DefinedLemmas
 pub mod CauseLemmas
+pub mod FoldFacts
+pub mod FoldSteps
+pub mod FoldTurns
+pub mod FoldLemmas
+pub mod FoldWaiting
+pub mod FoldNodes
 pub mod PlanNodeLemmas
+pub mod FormulaLemmas
+pub mod PlanKeptLemmas
+pub mod FoldRules

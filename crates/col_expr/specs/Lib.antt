@@ -12,3 +12,6 @@ pub mod Plan
 pub mod FoundPlan
 pub mod PlanNode
 pub mod PlanLaws
+pub mod Folded
+pub mod FoldLaws
+pub mod Waiting

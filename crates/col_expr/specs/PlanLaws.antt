@@ -8,6 +8,7 @@ use Rattle.col_model.specs.Formula.{Formula, exact_value_of}
 use Rattle.col_model.specs.Broadcast.{operand_row}
 use Rattle.col_expr.specs.Tree.{Tree, Input, Cast, Binary, ScalarRight, ScalarLeft, InUnit, Shift}
 use Rattle.col_expr.specs.Numbers.{Numbers, number_at, below, left_of, right_of, numbers_from}
+use Rattle.col_expr.specs.Built.{is_built_tree}
 use Rattle.col_expr.specs.Meaning.{slot_at, row_count}
 use Rattle.col_expr.specs.Plan.{Plan, interval_in, formula_for, is_plan_valid}
 use Rattle.col_expr.specs.FoundPlan.{found_plan}
@@ -67,11 +68,11 @@ IsKeptBy inputs plan node =
     (range : Interval) → interval_in plan (number_at node.0) ≡ Some range →
     IsKeptIn inputs node.1 range
 
--- a valid plan keeps its promise at each node
+-- a valid plan of a tree that an expression can hold keeps its promise at each node
 abbrev pub ValidPlansAreKept : Type 0
 ValidPlansAreKept =
     (inputs : List Column) (plan : Plan) (tree : Tree) → All IsValidColumn inputs →
-    is_plan_valid inputs plan tree ≡ true →
+    is_built_tree tree ≡ true → is_plan_valid inputs plan tree ≡ true →
     All (IsKeptBy inputs plan) (numbered_nodes (numbers_from 0 tree) tree)
 
 -- the plan that is found is valid

@@ -82,7 +82,7 @@ pub(crate) fn take_number(next: &mut u32) -> u32
 }
 
 // Counts a step for each slot of a node's answer.
-fn counted<L: Ledger>(
+pub(crate) fn counted<L: Ledger>(
     answer: Result<Series, EvalError>,
     steps: &mut Steps<L>,
 ) -> Result<Series, EvalError>
@@ -98,7 +98,12 @@ fn counted<L: Ledger>(
     }
 }
 
-fn input_column(alloc: Global, inputs: &Inputs, index: u32, node: u32) -> Result<Series, EvalError>
+pub(crate) fn input_column(
+    alloc: Global,
+    inputs: &Inputs,
+    index: u32,
+    node: u32,
+) -> Result<Series, EvalError>
     ensures found { IsFound (columns_of inputs.now) (One node) (Input index) result }
 {
     match inputs.get(index) {

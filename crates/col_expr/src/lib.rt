@@ -5,6 +5,10 @@ mod check;
 mod error;
 mod evaluation;
 mod expr;
+mod fold_laws;
+#[cfg(test)]
+mod fold_tests;
+mod folded;
 mod inputs;
 mod laws;
 mod node;
@@ -12,9 +16,13 @@ mod node_image;
 mod operations;
 mod part;
 mod plan;
+mod plan_laws;
+#[cfg(test)]
+mod plan_tests;
 mod steps;
 #[cfg(test)]
 mod tests;
+mod waiting;
 
 pub use check::check_plan;
 pub use col_series::{CastOptions, DataType, Series, TimeUnit, TimeZone};
@@ -22,6 +30,8 @@ pub use col_types::{BinOp, ScalarOp};
 pub use error::{EvalError, ExprCause, ExprRefused};
 pub use evaluation::evaluate;
 pub use expr::Expr;
+pub use fold_laws::{folding_changes_no_answer, known_folds, rules_of_folding};
+pub use folded::evaluate_folded;
 pub use inputs::Inputs;
 pub use laws::{
     defined_up_to_the_first_refusal, one_tree_fits, refusals_in_postfix_order,
@@ -29,4 +39,5 @@ pub use laws::{
 };
 pub use node::UnaryOp;
 pub use plan::RangePlan;
+pub use plan_laws::valid_plans_are_kept;
 pub use steps::Steps;

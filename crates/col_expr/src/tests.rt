@@ -10,7 +10,7 @@ use std::marker::Brand;
 use std::sync::ledger::{Blank, Ledger};
 use std::test::Fail;
 
-fn moments(unit: TimeUnit) -> DataType
+pub(crate) fn moments(unit: TimeUnit) -> DataType
     ensures built { is_built_type result ≡ true }
     ensures target { is_built_cast result ≡ true }
 {
@@ -24,7 +24,11 @@ fn column(alloc: Global, dtype: DataType, slots: &[Option<i128>]) -> Result<Seri
     Ok(Series::from_slots(alloc, name, &dtype, slots)?)
 }
 
-fn one_input(alloc: Global, unit: TimeUnit, slots: &[Option<i128>]) -> Result<Inputs, Fail>
+pub(crate) fn one_input(
+    alloc: Global,
+    unit: TimeUnit,
+    slots: &[Option<i128>],
+) -> Result<Inputs, Fail>
     ensures one { IfOk result (λ inputs. length inputs ≡ 1) }
 {
     let column = column(alloc, moments(unit), slots)?;
@@ -36,7 +40,7 @@ fn one_input(alloc: Global, unit: TimeUnit, slots: &[Option<i128>]) -> Result<In
 }
 
 // Moments, and lengths of time in the same unit.
-fn two_inputs(
+pub(crate) fn two_inputs(
     alloc: Global,
     moments: &[Option<i128>],
     lengths: &[Option<i128>],
@@ -49,14 +53,19 @@ fn two_inputs(
     }
 }
 
-fn built(answer: Result<Expr, ExprRefused>) -> Result<Expr, Fail> {
+pub(crate) fn built(answer: Result<Expr, ExprRefused>) -> Result<Expr, Fail> {
     match answer {
         Ok(expr) => Ok(expr),
         Err(refused) => Err(Fail::from(refused.cause)),
     }
 }
 
-fn cast(alloc: Global, operand: Expr, dtype: DataType, options: CastOptions) -> Result<Expr, Fail>
+pub(crate) fn cast(
+    alloc: Global,
+    operand: Expr,
+    dtype: DataType,
+    options: CastOptions,
+) -> Result<Expr, Fail>
     requires built { is_built_cast dtype ≡ true }
 {
     built(Expr::cast(alloc, operand, dtype, options))
@@ -80,7 +89,7 @@ fn answer(alloc: Global, expr: &Expr, inputs: &Inputs) -> Result<Series, EvalErr
     counted::<Brand>(alloc, Blank::new(1), expr, inputs)
 }
 
-fn tick(column: &Series, row: usize) -> Result<Option<i64>, Fail> {
+pub(crate) fn tick(column: &Series, row: usize) -> Result<Option<i64>, Fail> {
     Ok(match column.get(row)? {
         AnyValue::Datetime(tick, _, _) | AnyValue::Duration(tick, _) => Some(tick),
         _ => None,
