@@ -66,8 +66,24 @@ def lengths(count):
         yield str(next(draw) % 43_200_000)
 
 
-def write_script(path, columns, expression):
+def few_moments(count):
+    """Milliseconds from 0 to 10, one slot in thirty-two null."""
+    draw = numbers(5)
+    for _ in range(count):
+        number = next(draw)
+        yield "null" if number % 32 == 31 else str((number >> 16) % 11)
+
+
+def chain(pairs):
+    """Casts to a finer unit and back, and the plan that covers the column and each of them."""
+    casts = " cast:datetime[ns] cast:datetime[ms]" * pairs
+    plan = [f"{node} 0 {10_000_000 if node % 2 == 1 else 10}" for node in range(2 * pairs + 1)]
+    return "$0" + casts, plan
+
+
+def write_script(path, columns, expression, plan=()):
     lines = [f"col {name} {dtype} {' '.join(slots)}\n" for name, dtype, slots in columns]
+    lines += [f"plan {entry}\n" for entry in plan]
     text = "".join(lines) + f"expr {expression}\n"
     assert len(text) < MAX_SCRIPT, f"{path} has {len(text)} bytes"
     with open(path, "w", encoding="ascii", newline="\n") as script:
@@ -87,9 +103,10 @@ def main():
             ],
             "$0 $1 + cast:date",
         ),
+        "chain": ([("a", "datetime[ms]", few_moments(20_000))], *chain(255)),
     }
-    for name, (columns, expression) in scripts.items():
-        write_script(os.path.join(folder, name), columns, expression)
+    for name, script in scripts.items():
+        write_script(os.path.join(folder, name), *script)
 
 
 if __name__ == "__main__":

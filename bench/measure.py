@@ -14,6 +14,8 @@ import sys
 
 # A script, and the most that the program may take of its peer's processor time and of its memory.
 TARGETS = (("long", 0.75, 1.0), ("short", 1.1, 1.6), ("sum", 0.8, 1.3))
+# The most that folding may take of the time of evaluating.
+MOST_FOLDED = 0.1
 # Linux counts the resident size in units of 1024 bytes.
 RESIDENT_UNIT = 1024
 
@@ -29,10 +31,9 @@ def run(command, script, answer):
     return used.ru_utime + used.ru_stime, used.ru_maxrss * RESIDENT_UNIT
 
 
-def compare(program, peer, folder, name, runs):
-    """The least seconds and the most resident bytes of the program, and those of its peer."""
+def compare(commands, folder, name, runs):
+    """For each command the least seconds and the most resident bytes on the script."""
     script = os.path.join(folder, name)
-    commands = {"program": [program, "eval"], "peer": [peer, "eval"]}
     answers = {who: f"{script}.{who}" for who in commands}
     measured = {who: [] for who in commands}
     for turn in range(runs + 1):
@@ -42,31 +43,55 @@ def compare(program, peer, folder, name, runs):
             if turn > 0:
                 measured[who].append(used)
     # Piece by piece: a child's resident size counts what this process had when it started the child.
-    if not filecmp.cmp(*answers.values(), shallow=False):
-        sys.exit(f"{name}: the answers differ: {' and '.join(answers.values())}")
-    return [
-        (min(seconds for seconds, _ in used), max(resident for _, resident in used))
-        for used in measured.values()
-    ]
+    for who, answer in answers.items():
+        if not filecmp.cmp(answer, answers["peer"], shallow=False):
+            sys.exit(f"{name}: the answers differ: {answer} and {answers['peer']}")
+    return {
+        who: (min(seconds for seconds, _ in used), max(resident for _, resident in used))
+        for who, used in measured.items()
+    }
 
 
-def main():
-    program, peer, folder = (os.path.abspath(word) for word in sys.argv[1:4])
-    runs = int(sys.argv[4]) if len(sys.argv) > 4 else 7
+def is_like_peer(program, peer, folder, runs):
+    """Whether the program keeps its targets beside the peer."""
+    commands = {"program": [program, "eval"], "peer": [peer, "eval"]}
     missed = False
     for name, most_time, most_resident in TARGETS:
-        used, of_peer = compare(program, peer, folder, name, runs)
-        time, resident = used[0] / of_peer[0], used[1] / of_peer[1]
+        used = compare(commands, folder, name, runs)
+        own, of_peer = used["program"], used["peer"]
+        time, resident = own[0] / of_peer[0], own[1] / of_peer[1]
         is_met = time <= most_time and resident <= most_resident
         missed |= not is_met
         print(
             f"{name}: {time:.2f} times its peer (at most {most_time}), "
             f"{resident:.2f} times its memory (at most {most_resident}; "
-            f"{used[1] / 1e6:.0f} MB, the peer {of_peer[1] / 1e6:.0f}): "
+            f"{own[1] / 1e6:.0f} MB, the peer {of_peer[1] / 1e6:.0f}): "
             f"{'met' if is_met else 'MISSED'}"
         )
+    return not missed
+
+
+def is_folded(program, peer, folder, runs):
+    """Whether a long chain of casts is folded in a small part of the time that it takes."""
+    commands = {"eval": [program, "eval"], "fold": [program, "fold"], "peer": [peer, "eval"]}
+    used = compare(commands, folder, "chain", runs)
+    seconds = {who: time for who, (time, _) in used.items()}
+    part = seconds["fold"] / seconds["eval"]
+    is_met = part <= MOST_FOLDED
+    print(
+        f"chain: eval {seconds['eval'] / seconds['peer']:.2f} times its peer, "
+        f"fold {seconds['fold'] / seconds['peer']:.3f} times its peer; "
+        f"fold {part:.3f} times eval (at most {MOST_FOLDED}): {'met' if is_met else 'MISSED'}"
+    )
+    return is_met
+
+
+def main():
+    program, peer, folder = (os.path.abspath(word) for word in sys.argv[1:4])
+    runs = int(sys.argv[4]) if len(sys.argv) > 4 else 7
+    are_met = [form(program, peer, folder, runs) for form in (is_like_peer, is_folded)]
     print("all answers are byte for byte those of the peer")
-    sys.exit(1 if missed else 0)
+    sys.exit(0 if all(are_met) else 1)
 
 
 if __name__ == "__main__":

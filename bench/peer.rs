@@ -224,7 +224,8 @@ fn read(script: &[u8]) -> Result<(Vec<Rc<Column<'_>>>, Vec<Node>), usize> {
         let line = str::from_utf8(line).map_err(|_| number)?;
         let mut tokens = line.split([' ', '\t']).filter(|token| !token.is_empty());
         match tokens.next() {
-            None => {}
+            // What a plan saves is not this program's to save.
+            None | Some("plan") => {}
             Some("col") if expression.is_none() => {
                 columns.push(Rc::new(Column::parse(tokens).ok_or(number)?));
             }

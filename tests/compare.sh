@@ -1,8 +1,10 @@
 #!/usr/bin/env bash
-# Whether the tables in crates/col_rows/stdin are those that temporal_tables.py prints.
+# Whether the tables in crates/col_rows/stdin are those that the two scripts here print.
 set -eu
 here=$(cd "$(dirname "${BASH_SOURCE[0]}")" && pwd)
-python3 "$here/temporal_tables.py" casts operators scalars units shifts |
-    cmp - <(sed -n '/^## /,$p' "$here/../crates/col_rows/stdin" | sed '1i\
+{
+    python3 "$here/temporal_tables.py" casts operators scalars units shifts
+    python3 "$here/plan_tables.py"
+} | cmp - <(sed -n '/^## casts of date$/,$p' "$here/../crates/col_rows/stdin" | sed '1i\
 ')
 echo "the tables are those of the formulas"

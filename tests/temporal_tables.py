@@ -8,6 +8,8 @@ by hand; `compare.sh` shows whether they are still these.
 
 import sys
 
+from spans import is_span, quotient, rest
+
 NANOS = {"ns": 1, "us": 1_000, "ms": 1_000_000}
 DAY_NANOS = 86_400_000_000_000
 I32 = (-(2**31), 2**31 - 1)
@@ -51,31 +53,47 @@ def day(unit):
     return DAY_NANOS // NANOS[unit]
 
 
-# ---- arithmetic; a null is None and makes each result null
+# ---- arithmetic; a null is None and makes each result null; spans give the span of the values
 
 
 def fit(bounds, x):
+    if is_span(x):
+        return x.inside(bounds)
     return x if x is not None and bounds[0] <= x <= bounds[1] else None
 
 
 def wrap(bounds, x):
+    if is_span(x):
+        return x.inside(bounds)
     width = bounds[1] - bounds[0] + 1
     return None if x is None else (x - bounds[0]) % width + bounds[0]
 
 
-def floor(x, k):
-    return None if x is None or k == 0 else x // k
-
-
-def trunc(x, k):
-    if x is None or k == 0:
+def divided(form, x, k):
+    if x is None or k is None:
         return None
+    if is_span(x, k):
+        return quotient(form, x, k)
+    return None if k == 0 else form(x, k)
+
+
+def towards_zero(x, k):
     size = abs(x) // abs(k)
     return size if (x < 0) == (k < 0) else -size
 
 
+def floor(x, k):
+    return divided(lambda x, k: x // k, x, k)
+
+
+def trunc(x, k):
+    return divided(towards_zero, x, k)
+
+
 def mod(x, k):
-    return None if x is None or k == 0 else x % k
+    if is_span(x, k) and None not in (x, k):
+        return rest(k)
+    return None if None in (x, k) or k == 0 else x % k
 
 
 def in_unit(old, new, x, rounded):

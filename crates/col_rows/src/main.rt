@@ -17,6 +17,16 @@ use std::sync::ledger::{Blank, Ledger};
 /// How many bytes the devices move at a call.
 const STEPS: [usize; 4] = [1, 3, 7, 4096];
 
+/// The same where a row is run once more.
+const STEP: usize = 4096;
+
+/// A plan that no expression keeps, whose intervals are narrow: no tree has the last node.
+const FALSE_PLAN: &str = "\
+plan 1 0 9\n\
+plan 2 0 9\n\
+plan 3 0 9\n\
+plan 4294967295 0 9\n";
+
 fn words_of(alloc: Global, text: &str) -> Result<Words> {
     let mut words = Words::new(alloc);
     if text == "(no words)" {
@@ -43,44 +53,126 @@ fn run_counted<S: Source, K: Sink, L: Ledger>(
     run(alloc, words, source, sink, &mut Steps::<L>::new(blank))
 }
 
-/// What the program answers to the row's script by devices of this step.
-fn answer_to(alloc: Global, row: &Row, step: usize) -> Result<(Status, MemorySink)>
+/// What is run, and what it has to answer.
+struct Run<'a> {
+    title: &'a str,
+    words: &'a str,
+    plan: &'a str,
+    script: &'a str,
+    status: &'a str,
+    answer: &'a str,
+}
+
+/// The row by these words, with the lines of a plan in front of its script.
+fn run_of<'a>(row: &'a Row, words: &'a str, plan: &'a str) -> Run<'a> {
+    Run {
+        title: row.title.as_str(),
+        words,
+        plan,
+        script: row.script.as_str(),
+        status: row.status.as_str(),
+        answer: row.answer.as_str(),
+    }
+}
+
+/// The check of a plan for the row's script.
+fn check_of<'a>(row: &'a Row, plan: &'a str, answer: &'a str) -> Run<'a> {
+    Run {
+        title: row.title.as_str(),
+        words: "check",
+        plan,
+        script: row.script.as_str(),
+        status: "done",
+        answer,
+    }
+}
+
+/// What the program answers by devices of this step.
+fn answer_to(alloc: Global, run: &Run<'_>, step: usize) -> Result<(Status, MemorySink)>
     requires step { 0 < step }
 {
-    let words = words_of(alloc, row.words.as_str())?;
-    let script = Vec::from_slice(alloc, row.script.as_bytes())?;
+    let words = words_of(alloc, run.words)?;
+    let mut script = Vec::from_slice(alloc, run.plan.as_bytes())?;
+    script.extend_from_slice(run.script.as_bytes())?;
     let mut source = SureSource::new(script, step);
     let mut sink = MemorySink::new(alloc, step, Vec::new(alloc));
     let status = run_counted::<_, _, Brand>(alloc, &words, &mut source, &mut sink, Blank::new(1));
     Ok((status, sink))
 }
 
-/// Whether the row is answered as it has to be; prints what differs.
-fn is_answered(rt: &(impl Print + Alloc), alloc: Global, row: &Row, step: usize) -> Result<bool>
+/// Whether a run answers as it has to; prints what differs.
+fn is_answered(
+    rt: &(impl Print + Alloc),
+    alloc: Global,
+    run: &Run<'_>,
+    step: usize,
+) -> Result<bool>
     requires step { 0 < step }
 {
-    let (status, sink) = answer_to(alloc, row, step)?;
-    let same = status.message() == row.status.as_str() && sink.bytes() == row.answer.as_bytes();
+    let (status, sink) = answer_to(alloc, run, step)?;
+    let same = status.message() == run.status && sink.bytes() == run.answer.as_bytes();
     if !same {
         let text = String::from_utf8_lossy(alloc, sink.bytes())?;
-        println!(rt; "{} at step {step}: {}", row.title, status.message())?;
-        println!(rt; "{text}")?;
+        println!(rt; "{} by {} at step {step}: {}", run.title, run.words, status.message())?;
+        println!(rt; "{}{text}", run.plan)?;
     }
     Ok(same)
+}
+
+/// The lines of the plan that is found for the row's script.
+fn found_plan(alloc: Global, row: &Row) -> Result<String> {
+    let (_, sink) = answer_to(alloc, &run_of(row, "plan", ""), STEP)?;
+    Ok(String::from_utf8_lossy(alloc, sink.bytes())?)
+}
+
+/// How many runs a row of `eval` has by folding, without a plan, under the plan that is found, under
+/// a false one and under a true one; none where one of them doesn't answer as `eval`.
+fn folds(rt: &(impl Print + Alloc), alloc: Global, row: &Row) -> Result<Option<usize>> {
+    for words in ["fold", "autofold"] {
+        if !is_answered(rt, alloc, &run_of(row, words, ""), STEP)? {
+            return Ok(None);
+        }
+    }
+    if row.status.as_str() == "bad script" {
+        return Ok(Some(2));
+    }
+    let found = found_plan(alloc, row)?;
+    for (plan, verdict) in [(FALSE_PLAN, "no\n"), (found.as_str(), "yes\n")] {
+        if !is_answered(rt, alloc, &run_of(row, "fold", plan), STEP)?
+            || !is_answered(rt, alloc, &check_of(row, plan, verdict), STEP)?
+        {
+            return Ok(None);
+        }
+    }
+    Ok(Some(6))
+}
+
+/// How many runs a row has, none where one of them doesn't answer as it has to.
+fn runs(rt: &(impl Print + Alloc), alloc: Global, row: &Row) -> Result<Option<usize>> {
+    for step in STEPS {
+        if !is_answered(rt, alloc, &run_of(row, row.words.as_str(), ""), step)? {
+            return Ok(None);
+        }
+    }
+    if row.words.as_str() != "eval" {
+        return Ok(Some(STEPS.len()));
+    }
+    let folds = folds(rt, alloc, row)?;
+    Ok(folds.map(|count| STEPS.len() + count))
 }
 
 fn main(rt: HostRuntime) -> Result<()> {
     let alloc = rt.alloc();
     let list = io::read_to_string(alloc, rt.reader())?;
     let rows = rows_of(alloc, list.as_str())?;
+    let mut count = 0usize;
     for row in &rows {
-        for step in STEPS {
-            if !is_answered(&rt, alloc, row, step)? {
-                return Ok(());
-            }
-        }
+        let Some(runs) = runs(&rt, alloc, row)? else {
+            return Ok(());
+        };
+        count = count.saturating_add(runs);
     }
-    println!(rt; "{} rows are answered as they have to be", rows.len())?;
+    println!(rt; "{} rows are answered as they have to be, in {count} runs", rows.len())?;
     Ok(())
 }
 

@@ -11,11 +11,13 @@ pub struct Row {
     pub answer: String,
 }
 
-/// The columns that many expressions share.
+/// The columns that many expressions share, with the expression and the plan that stand last.
 #[derive(Drop)]
 struct Table {
     title: String,
     columns: String,
+    expression: String,
+    plan: String,
 }
 
 /// A line of the list.
@@ -27,6 +29,8 @@ enum Line<'a> {
     Expression(&'a str),
     Answer(&'a str),
     Wanted(&'a str),
+    Found(&'a str),
+    Denied(&'a str),
     Plain(&'a str),
     Blank,
 }
@@ -43,6 +47,12 @@ fn line_of(line: &str) -> Line<'_> {
     }
     if let Some(answer) = line.strip_prefix("= ") {
         return Line::Wanted(answer);
+    }
+    if let Some(plan) = line.strip_prefix(": ") {
+        return Line::Found(plan);
+    }
+    if let Some(plan) = line.strip_prefix("! ") {
+        return Line::Denied(plan);
     }
     if let Some(script) = line.strip_prefix("> ") {
         return Line::Script(script);
@@ -72,13 +82,9 @@ impl Row {
         match line {
             Line::Script(script) => push_script(&mut self.script, script),
             Line::Answer(answer) => push_answer(&mut self.answer, answer),
-            Line::Wanted(answer) => {
-                self.status.push_str(status_of(answer))?;
-                push_answer(&mut self.answer, answer)
-            }
             Line::Plain(word) if self.words.is_empty() => self.words.push_str(word),
             Line::Plain(word) => self.status.push_str(word),
-            Line::Title(_) | Line::Table(_) | Line::Expression(_) | Line::Blank => Ok(()),
+            _ => Ok(()),
         }
     }
 }
@@ -88,20 +94,98 @@ impl Table {
         Ok(Table {
             title: String::from_str(alloc, title)?,
             columns: String::new(alloc),
+            expression: String::new(alloc),
+            plan: String::new(alloc),
         })
     }
 
-    /// The row of one expression over the columns, without its answer.
-    fn row(&self, alloc: Global, expression: &str) -> Result<Row, AllocError> {
+    fn set_expression(&mut self, alloc: Global, line: &str) -> Result<(), AllocError> {
+        self.expression = String::from_str(alloc, line)?;
+        Ok(())
+    }
+
+    fn set_plan(&mut self, alloc: Global, line: &str) -> Result<(), AllocError> {
+        self.plan = String::from_str(alloc, line)?;
+        Ok(())
+    }
+
+    /// What a command has to do with the last expression under a plan, without its answer.
+    fn row(
+        &self,
+        alloc: Global,
+        words: &str,
+        plan: &str,
+        status: &str,
+    ) -> Result<Row, AllocError> {
         let mut row = Row::new(alloc);
         row.title.push_str(self.title.as_str())?;
         row.title.push_str(", ")?;
-        row.title.push_str(expression)?;
-        row.words.push_str("eval")?;
+        row.title.push_str(self.expression.as_str())?;
+        row.words.push_str(words)?;
         row.script.push_str(self.columns.as_str())?;
+        push_plan(&mut row.script, plan)?;
         row.script.push_str("expr ")?;
-        push_script(&mut row.script, expression)?;
+        push_script(&mut row.script, self.expression.as_str())?;
+        row.status.push_str(status)?;
         Ok(row)
+    }
+
+    /// The row of the last expression that is evaluated.
+    fn value(&self, alloc: Global, answer: &str) -> Result<Row, AllocError> {
+        let mut row = self.row(alloc, "eval", "", status_of(answer))?;
+        push_answer(&mut row.answer, answer)?;
+        Ok(row)
+    }
+
+    /// The row of the plan that is found for the last expression.
+    fn found(&self, alloc: Global) -> Result<Row, AllocError> {
+        let mut row = self.row(alloc, "plan", "", "done")?;
+        push_plan(&mut row.answer, self.plan.as_str())?;
+        Ok(row)
+    }
+
+    /// The row that checks a plan of the last expression.
+    fn verdict(&self, alloc: Global, plan: &str, answer: &str) -> Result<Row, AllocError> {
+        let mut row = self.row(alloc, "check", plan, "done")?;
+        push_answer(&mut row.answer, answer)?;
+        Ok(row)
+    }
+
+    /// The rows that check the last plan with each of these entries in it.
+    fn push_denied(
+        &self,
+        alloc: Global,
+        rows: &mut Vec<Row>,
+        entries: &str,
+    ) -> Result<(), AllocError> {
+        for entry in entries.split(" / ") {
+            let mut plan = String::from_str(alloc, self.plan.as_str())?;
+            plan.push_str(" / ")?;
+            plan.push_str(entry)?;
+            rows.push(self.verdict(alloc, plan.as_str(), "no")?)?;
+        }
+        Ok(())
+    }
+
+    /// Takes a line of the table, and adds the rows that it makes.
+    fn add(
+        &mut self,
+        alloc: Global,
+        rows: &mut Vec<Row>,
+        line: Line<'_>,
+    ) -> Result<(), AllocError> {
+        match line {
+            Line::Script(line) => push_script(&mut self.columns, line),
+            Line::Expression(line) => self.set_expression(alloc, line),
+            Line::Wanted(answer) => rows.push(self.value(alloc, answer)?),
+            Line::Found(plan) => {
+                self.set_plan(alloc, plan)?;
+                rows.push(self.found(alloc)?)?;
+                rows.push(self.verdict(alloc, plan, "yes")?)
+            }
+            Line::Denied(entries) => self.push_denied(alloc, rows, entries),
+            _ => Ok(()),
+        }
     }
 }
 
@@ -149,8 +233,26 @@ fn push_answer(answer: &mut String, line: &str) -> Result<(), AllocError> {
     Ok(())
 }
 
-/// The rows of the list, each of which begins with its title, and those of its tables: the lines
-/// `? EXPRESSION` and `= ANSWER` behind the columns that they share.
+/// The lines of a plan, whose entries stand behind one another with ` / ` between them.
+fn push_plan(script: &mut String, plan: &str) -> Result<(), AllocError> {
+    for entry in plan.split(" / ") {
+        if !entry.is_empty() {
+            script.push_str("plan ")?;
+            script.push_str(entry)?;
+            script.push('\n')?;
+        }
+    }
+    Ok(())
+}
+
+fn titled(alloc: Global, title: &str) -> Result<Row, AllocError> {
+    let mut row = Row::new(alloc);
+    row.title.push_str(title)?;
+    Ok(row)
+}
+
+/// The rows of the list, each of which begins with its title, and those of its tables, each of which
+/// begins with a title of its own.
 pub fn rows_of(alloc: Global, list: &str) -> Result<Vec<Row>, AllocError> {
     let mut rows: Vec<Row> = Vec::new(alloc);
     let mut table: Option<Table> = None;
@@ -158,14 +260,11 @@ pub fn rows_of(alloc: Global, list: &str) -> Result<Vec<Row>, AllocError> {
         match (line_of(text), &mut table) {
             (Line::Title(title), _) => {
                 table = None;
-                let mut row = Row::new(alloc);
-                row.title.push_str(title)?;
-                rows.push(row)?;
+                rows.push(titled(alloc, title)?)?;
             }
             (Line::Table(title), _) => table = Some(Table::new(alloc, title)?),
-            (Line::Script(line), Some(table)) => push_script(&mut table.columns, line)?,
-            (Line::Expression(line), Some(table)) => rows.push(table.row(alloc, line)?)?,
-            (line, _) => {
+            (line, Some(table)) => table.add(alloc, &mut rows, line)?,
+            (line, None) => {
                 if let Some(row) = rows.last_mut() {
                     row.add(line)?;
                 }
