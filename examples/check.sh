@@ -8,13 +8,22 @@ if ! (cd "$here/../crates/tizlumed" && rt run -- --version) > /dev/null; then
     exit 1
 fi
 failed=0
-for script in "$here"/*.script; do
-    name=$(basename "$script" .script)
-    if "$program" eval < "$script" | cmp -s - "$here/$name.answer"; then
-        echo "example $name: as it has to be"
+# answers COMMAND NAME ANSWER: whether the program's answer to the example is the one in the file.
+answers() {
+    if "$program" "$1" < "$here/$2.script" | cmp -s - "$3"; then
+        echo "example $2, $1: as it has to be"
     else
-        echo "example $name: the answer differs" >&2
+        echo "example $2, $1: the answer differs" >&2
         failed=1
     fi
+}
+for script in "$here"/*.script; do
+    name=$(basename "$script" .script)
+    answers eval "$name" "$here/$name.answer"
+    for command in check plan; do
+        if [ -e "$here/$name.$command" ]; then
+            answers "$command" "$name" "$here/$name.$command"
+        fi
+    done
 done
 exit $failed

@@ -1,15 +1,19 @@
 -- What the program answers to its words and to the bytes of its script.
-use Rattle.std.specs.Prelude.{◌≡◌, ◌≤◌, ℕ, Bool, true, false, List, [], Option, Some, None, option_and_then, Result, Ok, Err, length}
+use Rattle.std.specs.Prelude.{◌≡◌, ◌≤◌, ℕ, Bool, true, false, List, [], Option, Some, None, option_and_then, Result, Ok, Err, length, codes}
 use Rattle.std.specs.Option.{IsSomeAnd, option_map_or}
 use Rattle.col_model.specs.Chunked.{columns_of}
 use Rattle.col_model.specs.Column.{Column}
 use Rattle.col_expr.specs.declared.error.EvalError.{EvalError}
+use Rattle.col_expr.specs.FoundPlan.{found_plan}
+use Rattle.col_expr.specs.Plan.{is_plan_valid}
 use Rattle.col_expr.specs.Refusal.{outcome}
+use Rattle.col_expr.specs.Tree.{node_count}
 use Rattle.col_text.specs.declared.script.Script.{Script}
 use Rattle.col_text.specs.Script.{script_of}
 use Rattle.col_text.specs.Answer.{column_text, fault_text, bad_line_text}
+use Rattle.col_text.specs.Plans.{plan_text}
 use Rattle.col_prog.specs.declared.words.Command.{Command}
-use Rattle.col_prog.specs.declared.words.Command.TheVariants.{Eval, Help, Version}
+use Rattle.col_prog.specs.declared.words.Command.TheVariants.{Eval, Fold, Autofold, Check, Plan, Help, Version}
 use Rattle.col_prog.specs.declared.status.Status.{Status}
 use Rattle.col_prog.specs.declared.status.Status.TheVariants.{Done, Refused, BadScript, BadWords, ReadFault, TooLong, NoMemory}
 use Rattle.col_prog.specs.Words.{command_of}
@@ -25,20 +29,51 @@ abbrev pub reply_to_outcome : Result Column EvalError → Reply
 reply_to_outcome (Ok column) = record { text = column_text column; status = Done }
 reply_to_outcome (Err refusal) = record { text = fault_text refusal; status = Refused }
 
--- the answer to a script, or the text of its first bad line
-abbrev pub reply_to_script : Result Script ℕ → Reply
-reply_to_script (Ok script) = reply_to_outcome (outcome (columns_of script.inputs) script.expr)
-reply_to_script (Err line) = record { text = bad_line_text line; status = BadScript }
+-- the value of the script's expression, or its first refused node
+abbrev pub value_reply : Script → Reply
+value_reply script = reply_to_outcome (outcome (columns_of script.inputs) script.expr)
+
+-- the word of a truth
+abbrev pub verdict_text : Bool → List ℕ
+verdict_text true = codes "yes\n"
+verdict_text false = codes "no\n"
+
+-- whether the script's plan holds
+abbrev pub verdict_reply : Script → Reply
+verdict_reply script = record {
+  text = verdict_text (is_plan_valid (columns_of script.inputs) script.plan script.expr);
+  status = Done;
+}
+
+-- the plan that is found for the script's expression, as lines
+abbrev pub plan_reply : Script → Reply
+plan_reply script = record {
+  text = plan_text (found_plan (columns_of script.inputs) script.expr) (node_count script.expr);
+  status = Done;
+}
+
+-- what is made of a script, or the text of its first bad line
+abbrev pub reply_to_script : (Script → Reply) → Result Script ℕ → Reply
+reply_to_script reply (Ok script) = reply script
+reply_to_script reply (Err line) = record { text = bad_line_text line; status = BadScript }
 
 -- whether the command reads a script
 abbrev pub reads_script : Command → Bool
 reads_script Eval = true
+reads_script Fold = true
+reads_script Autofold = true
+reads_script Check = true
+reads_script Plan = true
 reads_script Help = false
 reads_script Version = false
 
 -- the text that the command says of the program itself, which needs no script
 abbrev pub own_text : Command → Option (List ℕ)
 own_text Eval = None
+own_text Fold = None
+own_text Autofold = None
+own_text Check = None
+own_text Plan = None
 own_text Help = Some help_text
 own_text Version = Some version_text
 
@@ -48,7 +83,11 @@ own_reply text = record { text = text; status = Done }
 
 -- the answer to a command and the bytes of its source; words that tell no command have no text
 abbrev pub reply_to : Option Command → List ℕ → Reply
-reply_to (Some Eval) bytes = reply_to_script (script_of bytes)
+reply_to (Some Eval) bytes = reply_to_script value_reply (script_of bytes)
+reply_to (Some Fold) bytes = reply_to_script value_reply (script_of bytes)
+reply_to (Some Autofold) bytes = reply_to_script value_reply (script_of bytes)
+reply_to (Some Check) bytes = reply_to_script verdict_reply (script_of bytes)
+reply_to (Some Plan) bytes = reply_to_script plan_reply (script_of bytes)
 reply_to (Some Help) bytes = own_reply help_text
 reply_to (Some Version) bytes = own_reply version_text
 reply_to None bytes = record { text = []; status = BadWords }

@@ -5,4 +5,5 @@ pub mod Reading
 pub mod Status
 pub mod Words
 pub mod Answer
+pub mod Evaluated
 pub mod HelpText

@@ -2,12 +2,16 @@
 use Rattle.std.specs.Prelude.{ℕ, List, [], ◌∷◌, Option, Some, None, codes, if◌then◌else◌}
 use Rattle.std.specs.Str.{bytes_eq}
 use Rattle.col_prog.specs.declared.words.Command.{Command}
-use Rattle.col_prog.specs.declared.words.Command.TheVariants.{Eval, Help, Version}
+use Rattle.col_prog.specs.declared.words.Command.TheVariants.{Eval, Fold, Autofold, Check, Plan, Help, Version}
 
 -- the command of one word
 abbrev pub command_named : List ℕ → Option Command
 command_named word =
     if bytes_eq word (codes "eval") then Some Eval
+    else if bytes_eq word (codes "fold") then Some Fold
+    else if bytes_eq word (codes "autofold") then Some Autofold
+    else if bytes_eq word (codes "check") then Some Check
+    else if bytes_eq word (codes "plan") then Some Plan
     else if bytes_eq word (codes "--help") then Some Help
     else if bytes_eq word (codes "--version") then Some Version
     else None

@@ -3,20 +3,28 @@ ghost use Rattle.std.specs.Prelude.{◌≡◌, ◌≤◌, ◌+◌, true, false, 
 ghost use Rattle.std.specs.Prelude.{IfSome, Some, Err};
 ghost use Rattle.std.specs.Io.KnownBytes.{IsAtEnd};
 ghost use Rattle.col_model.specs.Chunked.{columns_of};
-ghost use Rattle.col_text.specs.Script.{script_of};
+ghost use Rattle.col_text.specs.Answer.{bad_line_text};
+ghost use Rattle.col_text.specs.Script.{Reads, script_of};
+ghost use Rattle.col_expr.specs.Meaning.{step_count};
 ghost use Rattle.col_expr.specs.Refusal.{outcome};
 ghost use Rattle.col_prog.specs.Device.{Rose};
 ghost use Rattle.col_prog.specs.Reading.{Took, TookUpTo};
 ghost use Rattle.col_prog.specs.HelpText.{help_text, version_text};
 ghost use Rattle.col_prog.specs.Answer.{reply_to, reply_to_script, reply_to_outcome, IsAnswer};
+ghost use Rattle.col_prog.specs.Answer.{value_reply, verdict_reply, plan_reply};
 ghost use Rattle.col_prog.specs.Answer.{reads_script, own_text};
+ghost use Rattle.col_prog.specs.Evaluated.{evaluated_tree, folding_of, script_steps};
 
 use crate::device::Source;
 use crate::reading::{MAX_SCRIPT, ReadError, read_all};
 use crate::status::Status;
+use crate::value::{Folding, script_value};
 use crate::words::Command;
-use col_expr::{EvalError, Steps, evaluate};
-use col_text::{Script, answer_text, bad_line_text, fault_text, read_script};
+use col_expr::{EvalError, RangePlan, Steps, check_plan};
+use col_text::{
+    ReadError as ScriptError, Script, answer_text, bad_line_text, fault_text, plan_text,
+    read_script,
+};
 use std::alloc::{AllocError, Global};
 use std::sync::ledger::Ledger;
 
@@ -24,14 +32,24 @@ const HELP: &str = "\
 tizlumed answers one expression over columns of dates, times, moments and lengths.\n\
 \n\
 usage: tizlumed eval < SCRIPT\n\
+\x20      tizlumed fold < SCRIPT\n\
+\x20      tizlumed autofold < SCRIPT\n\
+\x20      tizlumed check < SCRIPT\n\
+\x20      tizlumed plan < SCRIPT\n\
 \x20      tizlumed --help\n\
 \x20      tizlumed --version\n\
 \n\
-A script has any number of lines `zone NAME` and `col NAME TYPE SLOT ..`, and then one\n\
-line `expr TOKEN ..` in postfix order. A SLOT is `null` or an integer. A TYPE is date, time,\n\
-datetime[UNIT], datetime[UNIT,ZONE] or duration[UNIT], a UNIT ns, us or ms. A TOKEN is\n\
+`eval` answers the expression of a script, `check` whether the script's plan\n\
+holds, and `plan` the plan that its columns give. `fold` and `autofold` answer as\n\
+`eval`, with casts between units folded by the script's plan, and by that one.\n\
+\n\
+A script has any number of lines `zone NAME`, `col NAME TYPE SLOT ..` and\n\
+`plan NODE LOW HIGH`, and then one line `expr TOKEN ..` in postfix order. A SLOT\n\
+is `null` or an integer. A TYPE is date, time, datetime[UNIT],\n\
+datetime[UNIT,ZONE] or duration[UNIT], a UNIT ns, us or ms. A NODE is a token's\n\
+place from 0, LOW and HIGH are the ends of its slots' interval. A TOKEN is\n\
 \x20 $N             column N, from 0\n\
-\x20 cast:TYPE      a cast; cast!:TYPE refuses to lose a slot, cast~:TYPE wraps a day\n\
+\x20 cast:TYPE      a cast; cast!: refuses to lose a slot, cast~: wraps a day\n\
 \x20 +, -, *, /, %  the two operands before it\n\
 \x20 +#K, K#+       an operand and an integer, so with each operator; also tdiv#K\n\
 \x20 unit:UNIT      another unit, wrapped\n\
@@ -64,17 +82,37 @@ pub(crate) fn answer_to<S: Source, L: Ledger>(
     ensures end { reads_script command ≡ true → OnOk result (IsAtEnd (S.left source.new)) }
     ensures within { reads_script command ≡ true → OnOk result (IfSome (S.left source.old) (λ bytes.
         length bytes ≤ MAX_SCRIPT)) }
-    ensures front { OnErr result (TookUpTo (S.left source.old) (S.left source.new) (MAX_SCRIPT + 1)) }
+    ensures front { OnErr result
+        (TookUpTo (S.left source.old) (S.left source.new) (MAX_SCRIPT + 1)) }
     ensures too_long { result ≡ Err ReadError.TooLong →
         Took (S.left source.old) (S.left source.new) (MAX_SCRIPT + 1) }
     ensures not_too_long { result ≡ Err ReadError.Fault →
         TookUpTo (S.left source.old) (S.left source.new) MAX_SCRIPT }
-    ensures fault { result ≡ Err ReadError.Fault → Rose (S.faults source.old) (S.faults source.new) }
+    ensures fault { result ≡ Err ReadError.Fault →
+        Rose (S.faults source.old) (S.faults source.new) }
+    ensures steps { IfOk result (λ a. a.status ≡ Status.Done → IfSome (S.left source.old) (λ bytes.
+        steps.new ≡ steps.old + script_steps (folding_of command) (script_of bytes))) }
 {
     match command {
         Command::Eval => {
             let bytes = read_all(alloc, source)?;
-            Ok(script_answer(alloc, bytes, steps)?)
+            Ok(value_answer(alloc, bytes, Folding::Without, steps)?)
+        }
+        Command::Fold => {
+            let bytes = read_all(alloc, source)?;
+            Ok(value_answer(alloc, bytes, Folding::Given, steps)?)
+        }
+        Command::Autofold => {
+            let bytes = read_all(alloc, source)?;
+            Ok(value_answer(alloc, bytes, Folding::Found, steps)?)
+        }
+        Command::Check => {
+            let bytes = read_all(alloc, source)?;
+            Ok(verdict_answer(alloc, bytes)?)
+        }
+        Command::Plan => {
+            let bytes = read_all(alloc, source)?;
+            Ok(plan_answer(alloc, bytes)?)
         }
         Command::Help => Ok(help(alloc)?),
         Command::Version => Ok(own_answer(alloc, VERSION)?),
@@ -99,26 +137,99 @@ fn own_answer(alloc: Global, text: &str) -> Result<Answer, AllocError>
     })
 }
 
-/// The answer to a script, or its first bad line.
-fn script_answer<L: Ledger>(
+/// The script that the bytes are, or why there is none. The bytes are let go.
+fn script_of(alloc: Global, bytes: Vec<u8>) -> Result<Script, ScriptError>
+    requires short { length bytes.items ≤ MAX_SCRIPT }
+    ensures script { Reads result (script_of bytes.items) }
+{
+    read_script(alloc, bytes.as_slice())
+}
+
+fn bad_line_answer(alloc: Global, line: u32) -> Result<Answer, AllocError>
+    ensures text { IfOk result (λ a. a.text.items ≡ bad_line_text line) }
+    ensures status { IfOk result (λ a. a.status ≡ Status.BadScript) }
+{
+    Ok(Answer {
+        text: bad_line_text(alloc, line)?,
+        status: Status::BadScript,
+    })
+}
+
+/// The value of a script, its first refused node, or its first bad line.
+fn value_answer<L: Ledger>(
     alloc: Global,
     bytes: Vec<u8>,
+    folding: Folding,
     steps: &mut Steps<L>,
 ) -> Result<Answer, AllocError>
     requires short { length bytes.items ≤ MAX_SCRIPT }
-    ensures text { IfOk result (λ a. a.text.items ≡ (reply_to_script (script_of bytes.items)).text) }
-    ensures status { IfOk result (λ a. a.status ≡ (reply_to_script (script_of bytes.items)).status) }
+    ensures text { IfOk result (λ a.
+        a.text.items ≡ (reply_to_script value_reply (script_of bytes.items)).text) }
+    ensures status { IfOk result (λ a.
+        a.status ≡ (reply_to_script value_reply (script_of bytes.items)).status) }
+    ensures answer { IfOk result (λ a. IsAnswer a.status) }
+    ensures steps { IfOk result (λ a. a.status ≡ Status.Done → steps.new ≡ steps.old
+        + script_steps (Some folding) (script_of bytes.items)) }
+{
+    match script_of(alloc, bytes) {
+        Ok(script) => expression_answer(alloc, script, folding, steps),
+        Err(ScriptError::BadLine { line }) => bad_line_answer(alloc, line),
+        Err(ScriptError::NoMemory) => Err(AllocError),
+    }
+}
+
+/// Whether the plan of a script holds, or its first bad line.
+fn verdict_answer(alloc: Global, bytes: Vec<u8>) -> Result<Answer, AllocError>
+    requires short { length bytes.items ≤ MAX_SCRIPT }
+    ensures text { IfOk result (λ a.
+        a.text.items ≡ (reply_to_script verdict_reply (script_of bytes.items)).text) }
+    ensures status { IfOk result (λ a.
+        a.status ≡ (reply_to_script verdict_reply (script_of bytes.items)).status) }
     ensures answer { IfOk result (λ a. IsAnswer a.status) }
 {
-    let script = read_script(alloc, bytes.as_slice());
-    drop(bytes);
-    match script {
-        Ok(script) => expression_answer(alloc, script, steps),
-        Err(col_text::ReadError::BadLine { line }) => Ok(Answer {
-            text: bad_line_text(alloc, line)?,
-            status: Status::BadScript,
+    match script_of(alloc, bytes) {
+        Ok(script) => own_answer(alloc, verdict(&script)),
+        Err(ScriptError::BadLine { line }) => bad_line_answer(alloc, line),
+        Err(ScriptError::NoMemory) => Err(AllocError),
+    }
+}
+
+fn verdict(script: &Script) -> &'static str
+    ensures text { result.now ≡ (verdict_reply script.now).text }
+{
+    if check_plan(&script.expr, &script.inputs, &script.plan) {
+        "yes\n"
+    } else {
+        "no\n"
+    }
+}
+
+/// The plan that is found for a script, or its first bad line.
+fn plan_answer(alloc: Global, bytes: Vec<u8>) -> Result<Answer, AllocError>
+    requires short { length bytes.items ≤ MAX_SCRIPT }
+    ensures text { IfOk result (λ a.
+        a.text.items ≡ (reply_to_script plan_reply (script_of bytes.items)).text) }
+    ensures status { IfOk result (λ a.
+        a.status ≡ (reply_to_script plan_reply (script_of bytes.items)).status) }
+    ensures answer { IfOk result (λ a. IsAnswer a.status) }
+{
+    match script_of(alloc, bytes) {
+        Ok(script) => found_answer(alloc, &script),
+        Err(ScriptError::BadLine { line }) => bad_line_answer(alloc, line),
+        Err(ScriptError::NoMemory) => Err(AllocError),
+    }
+}
+
+fn found_answer(alloc: Global, script: &Script) -> Result<Answer, AllocError>
+    ensures text { IfOk result (λ a. a.text.items ≡ (plan_reply script.now).text) }
+    ensures status { IfOk result (λ a. a.status ≡ Status.Done) }
+{
+    match RangePlan::of_inputs(alloc, &script.expr, &script.inputs) {
+        Ok(plan) => Ok(Answer {
+            text: plan_text(alloc, &plan, script.expr.nodes())?,
+            status: Status::Done,
         }),
-        Err(col_text::ReadError::NoMemory) => Err(AllocError),
+        Err(_) => Err(AllocError),
     }
 }
 
@@ -126,6 +237,7 @@ fn script_answer<L: Ledger>(
 fn expression_answer<L: Ledger>(
     alloc: Global,
     script: Script,
+    folding: Folding,
     steps: &mut Steps<L>,
 ) -> Result<Answer, AllocError>
     ensures text { IfOk result (λ a.
@@ -133,8 +245,10 @@ fn expression_answer<L: Ledger>(
     ensures status { IfOk result (λ a.
         a.status ≡ (reply_to_outcome (outcome (columns_of script.inputs) script.expr)).status) }
     ensures answer { IfOk result (λ a. IsAnswer a.status) }
+    ensures steps { IfOk result (λ a. a.status ≡ Status.Done → steps.new ≡ steps.old
+        + step_count (columns_of script.inputs) (evaluated_tree folding script)) }
 {
-    let outcome = evaluate(alloc, &script.expr, &script.inputs, steps);
+    let outcome = script_value(alloc, &script, folding, steps);
     drop(script);
     match outcome {
         Ok(column) => Ok(Answer {

@@ -45,8 +45,8 @@ pub trait Sink {
     ghost faults: { Self → ℕ };
 
     /// Takes a front of the piece, of one byte at least where it isn't empty, and answers how long
-    /// that is. `Failed` adds no byte to those that the sink tells, and leaves the room as it was. A
-    /// sink that tells no bytes may have handed on a front of the piece before it failed.
+    /// that is. `Failed` adds no byte to those that the sink tells, and leaves the room as it was.
+    /// A sink that tells no bytes may have handed on a front of the piece before it failed.
     fn write(&mut self, piece: &[u8]) -> Result<usize, Failed>
         requires fits { Fits (room self.old) (length piece.now) }
         ensures bound { WritesAtMost result piece.now }

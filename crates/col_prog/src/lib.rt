@@ -8,6 +8,7 @@ mod running;
 mod status;
 #[cfg(test)]
 mod tests;
+mod value;
 mod words;
 mod writing;
 

@@ -17,6 +17,7 @@ ghost use Rattle.col_prog.specs.Reading.{Took, TookUpTo, AppendsFront};
 ghost use Rattle.col_prog.specs.Words.{command_of};
 ghost use Rattle.col_prog.specs.Answer.{answer_of, asked_text, read_by, IsAnswer, IsUnwritten};
 ghost use Rattle.col_prog.specs.Answer.{IsStatus, HoldsAnswer};
+ghost use Rattle.col_prog.specs.Evaluated.{steps_of};
 
 use crate::answer::answer_to;
 use crate::device::{Failed, Sink, Source};
@@ -28,12 +29,11 @@ use col_expr::Steps;
 use std::alloc::Global;
 use std::sync::ledger::Ledger;
 
-/// Reads the words, then the source to its end, then builds the whole answer, and only then writes it.
-/// Each write offers all that is left of the answer. `steps` counts the slots of all nodes that are
-/// no inputs; no clause speaks of it yet.
+/// Reads the words, then the source to its end, then builds the whole answer, and only then writes
+/// it. Each write offers all that is left of the answer.
 ///
 /// Where a sink has limited room, the source has to tell its bytes and the room to hold the answer.
-#[tactic(auto, unfolding(crate::specs::Answer::answer_of))]
+#[tactic(auto, unfolding(crate::specs::Answer::answer_of, crate::specs::Evaluated::steps_of))]
 pub fn run<S: Source, K: Sink, L: Ledger>(
     alloc: Global,
     words: &Words,
@@ -63,7 +63,8 @@ pub fn run<S: Source, K: Sink, L: Ledger>(
         IfSome (S.left source.old) (λ bytes. length bytes ≤ MAX_SCRIPT) }
 
     // The sink failed: a front of the answer was written.
-    ensures write_fault { result ≡ Status.WriteFault → Rose (K.faults sink.old) (K.faults sink.new) }
+    ensures write_fault { result ≡ Status.WriteFault →
+        Rose (K.faults sink.old) (K.faults sink.new) }
     ensures write_front { result ≡ Status.WriteFault → IfSome (S.left source.old) (λ bytes.
         AppendsFront (K.contents sink.old) (K.contents sink.new) (answer_of words.now bytes).text) }
     ensures write_end { read_by words.now ≡ true → result ≡ Status.WriteFault →
@@ -73,13 +74,18 @@ pub fn run<S: Source, K: Sink, L: Ledger>(
 
     // It stopped short before the writing: nothing was written.
     ensures unwritten { IsUnwritten result → sink.new ≡ sink.old }
-    ensures read_fault { result ≡ Status.ReadFault → Rose (S.faults source.old) (S.faults source.new) }
+    ensures read_fault { result ≡ Status.ReadFault →
+        Rose (S.faults source.old) (S.faults source.new) }
     ensures read_front { result ≡ Status.ReadFault →
         TookUpTo (S.left source.old) (S.left source.new) MAX_SCRIPT }
     ensures too_long { result ≡ Status.TooLong →
         Took (S.left source.old) (S.left source.new) (MAX_SCRIPT + 1) }
     ensures no_memory { result ≡ Status.NoMemory →
         TookUpTo (S.left source.old) (S.left source.new) (MAX_SCRIPT + 1) }
+
+    // The steps of an answer without a refusal: the slots of the evaluated nodes that are no inputs.
+    ensures steps { result ≡ Status.Done → IfSome (S.left source.old) (λ bytes.
+        steps.new ≡ steps.old + steps_of words.now bytes) }
 
     // Completeness: with a command, a script that isn't too long and devices that don't fail, the
     // status is that of the answer, or memory is wanting.

@@ -157,6 +157,10 @@ fn sure_devices_take_and_give_all(rt: HostRuntime) -> Result<(), Fail> {
 fn one_word_tells_the_command(rt: HostRuntime) -> Result<(), Fail> {
     for (word, wanted) in [
         ("eval", Some(Command::Eval)),
+        ("fold", Some(Command::Fold)),
+        ("autofold", Some(Command::Autofold)),
+        ("check", Some(Command::Check)),
+        ("plan", Some(Command::Plan)),
         ("--help", Some(Command::Help)),
         ("--version", Some(Command::Version)),
         ("Eval", None),

@@ -12,6 +12,14 @@ use std::marker::Model;
 pub enum Command {
     /// To answer a script.
     Eval,
+    /// The same, with casts folded that the script's plan allows.
+    Fold,
+    /// The same, with casts folded that the plan allows that the columns give.
+    Autofold,
+    /// To say whether a script's plan holds.
+    Check,
+    /// To find a plan for a script.
+    Plan,
     /// To say how the program is used.
     Help,
     /// To say which version it is.
@@ -66,6 +74,10 @@ fn command_named(word: &str) -> Option<Command>
 {
     match word {
         "eval" => Some(Command::Eval),
+        "fold" => Some(Command::Fold),
+        "autofold" => Some(Command::Autofold),
+        "check" => Some(Command::Check),
+        "plan" => Some(Command::Plan),
         "--help" => Some(Command::Help),
         "--version" => Some(Command::Version),
         _ => None,

@@ -1,8 +1,10 @@
 // Runs that no list of rows can show: devices that fail, long scripts, deep expressions.
-ghost use Rattle.std.specs.Prelude.{◌≡◌, ◌<◌, ◌∷◌, [], IfOk};
+ghost use Rattle.std.specs.Prelude.{◌≡◌, ◌<◌, ◌∷◌, [], codes, IfOk};
 
 use super::{run_counted, words_of};
-use col_prog::{MemorySink, MemorySource, Status, Steps, SureSink, SureSource, Words, run};
+use col_prog::{
+    MemorySink, MemorySource, PlSmallStr, Status, Steps, SureSink, SureSource, Words, run,
+};
 use std::alloc::{AllocError, Global};
 use std::marker::Brand;
 use std::sync::ledger::{Blank, Ledger};
@@ -81,7 +83,7 @@ fn the_deepest_chain(rt: HostRuntime) -> Result<(), Fail> {
     Ok(())
 }
 
-const ROOM: usize = 1000;
+const ROOM: usize = 2000;
 
 fn line_feed(alloc: Global) -> Result<SureSource, AllocError>
     ensures left { IfOk result (λ source. source.left ≡ 10 ∷ []) }
@@ -125,5 +127,58 @@ fn an_answer_fits_its_room(rt: HostRuntime) -> Result<(), Fail> {
     let (status, sink) = answer_in_room(rt.alloc())?;
     assert_eq!(rt; status, Status::BadScript);
     assert_eq!(rt; sink.bytes(), b"bad line 2\n".as_slice());
+    Ok(())
+}
+
+// A verdict takes few bytes, whatever the plan.
+const VERDICT_ROOM: usize = 32;
+
+fn check_words(alloc: Global) -> Result<Words, Fail>
+    ensures words { IfOk result (λ words. words ≡ codes "check" ∷ []) }
+{
+    let mut words = Words::new(alloc);
+    words.push(PlSmallStr::from_str(alloc, "check")?)?;
+    Ok(words)
+}
+
+fn one_cast(alloc: Global) -> Result<SureSource, AllocError>
+    ensures left { IfOk result (λ source.
+        source.left ≡ codes "col a datetime[ms] 5\nexpr $0 cast:datetime[ns]\n") }
+{
+    let script = b"col a datetime[ms] 5\nexpr $0 cast:datetime[ns]\n";
+    Ok(SureSource::new(Vec::from_slice(alloc, script)?, 1))
+}
+
+fn check_in_room<L: Ledger>(
+    alloc: Global,
+    words: &Words,
+    source: &mut SureSource,
+    sink: &mut SureSink,
+    blank: Blank,
+) -> Status
+    requires name { blank.name ≡ L.name }
+    requires parts { blank.parts ≡ L.parts }
+    requires open { 0 < blank.parts }
+    requires words { words.now ≡ codes "check" ∷ [] }
+    requires script { source.old.left
+        ≡ codes "col a datetime[ms] 5\nexpr $0 cast:datetime[ns]\n" }
+    requires room { sink.old.room ≡ VERDICT_ROOM }
+{
+    run(alloc, words, source, sink, &mut Steps::<L>::new(blank))
+}
+
+fn verdict_in_room(alloc: Global) -> Result<(Status, SureSink), Fail> {
+    let words = check_words(alloc)?;
+    let mut source = one_cast(alloc)?;
+    let mut sink = room_of(alloc, VERDICT_ROOM)?;
+    let status = check_in_room::<Brand>(alloc, &words, &mut source, &mut sink, Blank::new(1));
+    Ok((status, sink))
+}
+
+#[test]
+fn a_verdict_fits_its_room(rt: HostRuntime) -> Result<(), Fail> {
+    let (status, sink) = verdict_in_room(rt.alloc())?;
+    assert_eq!(rt; status, Status::Done);
+    assert_eq!(rt; sink.bytes(), b"yes\n".as_slice());
     Ok(())
 }

@@ -125,6 +125,7 @@ zones : (script_of (codes "zone a/b\nzone a/b\ncol a datetime[ns,a/b]\nexpr $0")
         flag = Not;
       }) ∷ [];
       expr = Input 0;
+      plan = [];
     }))
     × (script_of (codes "col a datetime[ns,a/b]\nzone a/b\nexpr $0") ≡ Err 1)
     × (script_of (codes "zone a b\nexpr $0") ≡ Err 1) × (script_of (codes "zone\nexpr $0") ≡ Err 1)
@@ -141,6 +142,7 @@ whole_script : script_of (codes "col a datetime[ns] -1 null\r\n\nexpr $0")
         flag = Not;
       }) ∷ [];
       expr = Input 0;
+      plan = [];
     })
 whole_script = refl
 

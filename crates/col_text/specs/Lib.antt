@@ -8,5 +8,6 @@ pub mod Nodes
 pub mod Expression
 pub mod Script
 pub mod Answer
+pub mod Plans
 pub mod Reading
 pub mod Refused

@@ -3,6 +3,7 @@ use Rattle.std.specs.Prelude.{ℕ, ◌^◌, Bool, ◌&&◌, ◌||◌, List, get_
 use Rattle.std.specs.Int.{w64, w128}
 use Rattle.std.specs.Str.{all_ascii_digits}
 use Rattle.std.specs.Str.Parse.{digits_value, starts_with_minus, without_leading_plus}
+use Rattle.col_types.specs.Zones.{plus}
 use Rattle.col_model.specs.Arithmetic.{Signed, word_values, fitting_value}
 
 -- the value of one digit or more
@@ -21,7 +22,7 @@ number_of text = option_and_then small_number (natural_of text)
 
 -- whether a text begins with a sign
 abbrev pub starts_with_sign : List ℕ → Bool
-starts_with_sign text = starts_with_minus text || nat_eq (get_or text 0 0) 43
+starts_with_sign text = starts_with_minus text || nat_eq (get_or text 0 0) plus
 
 -- the number that an integer is, where 32 bits hold it
 abbrev pub small_integer : ℤ → Option ℕ

@@ -1,7 +1,8 @@
--- The script: lines of zones and columns, and then the line of the expression.
+-- The script: lines of zones, columns and plans, and then the line of the expression.
 use Rattle.std.specs.Prelude.{◌≡◌, ℕ, ◌+◌, List, [], ◌∷◌, ◌++◌, Option, Some, None, is_some, Result, Ok, Err, option_map, if◌then◌else◌, codes}
 use Rattle.std.specs.Str.{bytes_eq}
 use Rattle.col_types.specs.Zones.{with_name}
+use Rattle.col_expr.specs.Plan.{covering}
 use Rattle.col_expr.specs.Tree.{Tree}
 use Rattle.col_token.specs.Lines.{lines_of}
 use Rattle.col_token.specs.Tokens.{tokens_of}
@@ -11,11 +12,12 @@ use Rattle.col_text.specs.declared.script.ReadError.{ReadError}
 use Rattle.col_text.specs.declared.script.ReadError.TheVariants as errors
 use Rattle.col_text.specs.Zone.{zone_line}
 use Rattle.col_text.specs.Slots.{column_line}
+use Rattle.col_text.specs.Plans.{plan_line}
 use Rattle.col_text.specs.Expression.{expression_line}
 
 -- before the first line
 abbrev pub no_progress : Progress
-no_progress = record { zones = []; inputs = []; expr = None }
+no_progress = record { zones = []; inputs = []; plan = []; expr = None }
 
 -- one zone more
 abbrev pub with_zone : Progress → List (List ℕ) → Option Progress
@@ -28,6 +30,12 @@ abbrev pub with_column : Progress → List (List ℕ) → Option Progress
 with_column progress tokens =
     option_map (λ column. record progress { inputs = progress.inputs ++ column ∷ [] })
     (column_line progress.zones tokens)
+
+-- one node covered, in place of an older interval
+abbrev pub with_plan : Progress → List (List ℕ) → Option Progress
+with_plan progress tokens =
+    option_map (λ cover. record progress { plan = covering progress.plan cover.0 cover.1 })
+    (plan_line tokens)
 
 -- the expression
 abbrev pub with_expression : Progress → List (List ℕ) → Option Progress
@@ -43,6 +51,7 @@ progress_after progress (word ∷ tokens) =
     if is_some progress.expr then None
     else if bytes_eq word (codes "zone") then with_zone progress tokens
     else if bytes_eq word (codes "col") then with_column progress tokens
+    else if bytes_eq word (codes "plan") then with_plan progress tokens
     else if bytes_eq word (codes "expr") then with_expression progress tokens else None
 
 -- the number of the next line, which stays where this one is bad
@@ -53,7 +62,8 @@ number_after number (Some progress) = number + 1
 -- the script of what was read, where the expression is there
 abbrev pub script_with : ℕ → Progress → Option Tree → Result Script ℕ
 script_with number progress None = Err number
-script_with number progress (Some tree) = Ok (record { inputs = progress.inputs; expr = tree })
+script_with number progress (Some tree) =
+    Ok (record { inputs = progress.inputs; expr = tree; plan = progress.plan })
 
 -- the script at the end of the lines; without an expression the line behind the last one is bad
 abbrev pub finished : ℕ → Progress → Result Script ℕ

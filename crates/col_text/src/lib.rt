@@ -8,6 +8,7 @@ mod expression;
 mod line_error;
 mod node;
 mod numbers;
+mod plan;
 mod script;
 mod stack;
 mod ticks;
@@ -15,9 +16,10 @@ mod words;
 mod zone;
 
 pub use answer::{answer_text, bad_line_text, fault_text};
-pub use col_expr::{EvalError, Expr, Inputs};
+pub use col_expr::{EvalError, Expr, Inputs, RangePlan};
 pub use col_series::Series;
 pub use col_token::{Token, Tokens, line_count};
+pub use plan::plan_text;
 pub use script::{ReadError, Script, read_script};
 
 #[cfg(test)]

@@ -11,24 +11,27 @@ ghost use Rattle.col_text.specs.Script.{
   script_of,
   with_column,
   with_expression,
+  with_plan,
   with_zone,
 };
 
 use crate::column::column_line;
 use crate::expression::expression_line;
 use crate::line_error::LineError;
+use crate::plan::{Cover, plan_line};
 use crate::words::is_word;
 use crate::zone::zone_line;
-use col_expr::{Expr, Inputs};
+use col_expr::{Expr, Inputs, RangePlan};
 use col_token::{content, first_line, first_token};
 use col_types::ZoneNames;
 use std::alloc::Global;
 
-/// The columns of a script, and the expression over them.
+/// The columns of a script, the expression over them, and the plan of its nodes.
 #[derive(Drop)]
 pub struct Script {
     pub inputs: Inputs,
     pub expr: Expr,
+    pub plan: RangePlan,
 }
 
 /// Why a script isn't read.
@@ -46,6 +49,7 @@ pub enum ReadError {
 pub(crate) struct Progress {
     zones: ZoneNames,
     inputs: Inputs,
+    plan: RangePlan,
     expr: Option<Expr>,
 }
 
@@ -56,6 +60,7 @@ impl Progress {
         Progress {
             zones: ZoneNames::new(alloc),
             inputs: Inputs::new(alloc),
+            plan: RangePlan::new(alloc),
             expr: None,
         }
     }
@@ -78,6 +83,19 @@ impl Progress {
     {
         let column = column_line(alloc, &self.zones, line)?;
         match self.inputs.push(column) {
+            Ok(()) => Ok(()),
+            Err(_) => Err(LineError::NoMemory),
+        }
+    }
+
+    fn push_plan(&mut self, line: &[u8]) -> Result<(), LineError>
+        ensures progress { Becomes result self.new (with_plan self.old (words_in line.now)) }
+        ensures count { OnOk result (length self.new.inputs ≤ length self.old.inputs + 1) }
+    {
+        let Some(Cover { node, low, high }) = plan_line(line) else {
+            return Err(LineError::Bad);
+        };
+        match self.plan.cover(node, low, high) {
             Ok(()) => Ok(()),
             Err(_) => Err(LineError::NoMemory),
         }
@@ -106,6 +124,8 @@ impl Progress {
             self.push_zone(alloc, rest)
         } else if is_word(word, "col") {
             self.push_column(alloc, rest)
+        } else if is_word(word, "plan") {
+            self.push_plan(rest)
         } else if is_word(word, "expr") {
             self.set_expression(alloc, rest)
         } else {
@@ -117,9 +137,14 @@ impl Progress {
     fn script(self, line: u32) -> Result<Script, ReadError>
         ensures script { Reads result (finished line self) }
     {
-        let Progress { inputs, expr, .. } = self;
+        let Progress {
+            inputs,
+            plan,
+            expr,
+            ..
+        } = self;
         match expr {
-            Some(expr) => Ok(Script { inputs, expr }),
+            Some(expr) => Ok(Script { inputs, expr, plan }),
             None => Err(ReadError::BadLine { line }),
         }
     }

@@ -83,8 +83,8 @@ impl<W: Write> Sink for WriteSink<W> {
     ghost faults = { λ s. s.faults };
 
     /// Takes what the writer takes, and flushes. The count of faults is raised exactly where that
-    /// failed, or where the writer took nothing from a piece that isn't empty. Where the flush failed,
-    /// the writer has taken a front of the piece.
+    /// failed, or where the writer took nothing from a piece that isn't empty. Where the flush
+    /// failed, the writer has taken a front of the piece.
     fn write(&mut self, piece: &[u8]) -> Result<usize, Failed>
         requires fits { Fits None (length piece.now) }
         ensures bound { WritesAtMost result piece.now }
