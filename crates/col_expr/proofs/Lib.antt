@@ -10,3 +10,4 @@ pub mod CauseLemmas
 pub mod PlanNodeLemmas
 pub mod FormulaLemmas
 pub mod PlanKeptLemmas
+pub mod FoundPlanLemmas

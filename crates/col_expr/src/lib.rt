@@ -5,6 +5,7 @@ mod check;
 mod error;
 mod evaluation;
 mod expr;
+mod found_plan;
 mod inputs;
 mod laws;
 mod node;
@@ -32,5 +33,5 @@ pub use laws::{
 };
 pub use node::UnaryOp;
 pub use plan::RangePlan;
-pub use plan_laws::valid_plans_are_kept;
+pub use plan_laws::{found_plans_are_valid, valid_plans_are_kept};
 pub use steps::Steps;
