@@ -17,3 +17,4 @@ pub mod PlanNodeLemmas
 pub mod FormulaLemmas
 pub mod PlanKeptLemmas
 pub mod FoldRules
+pub mod FoundPlanLemmas

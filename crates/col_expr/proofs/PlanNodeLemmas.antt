@@ -150,7 +150,7 @@ number-over first (operations.ScalarLeft k op) e = refl
 number-over first (operations.InUnit u) e = refl
 number-over first (operations.Shift p) e = refl
 
-dtype-over : (inputs : List Column) (op : UnaryOp) (e : Tree) → dtype_of inputs (over op e) ≡ operation_dtype op (dtype_of inputs e)
+pub dtype-over : (inputs : List Column) (op : UnaryOp) (e : Tree) → dtype_of inputs (over op e) ≡ operation_dtype op (dtype_of inputs e)
 dtype-over inputs (operations.Cast t o) e = refl
 dtype-over inputs (operations.ScalarRight op k) e = refl
 dtype-over inputs (operations.ScalarLeft k op) e = refl

@@ -1,5 +1,5 @@
 -- The plan that the columns themselves give: from the slots of the inputs upwards.
-use Rattle.std.specs.Prelude.{ℕ, List, [], ◌∷◌, ◌++◌, Option, Some, None, slice_get, if◌then◌else◌}
+use Rattle.std.specs.Prelude.{ℕ, Bool, ◌&&◌, int_le, List, [], ◌∷◌, ◌++◌, Option, Some, None, slice_get, if◌then◌else◌}
 use Rattle.std.specs.Option.{option_and_then}
 use Rattle.std.specs.Int.{int_min, int_max}
 use Rattle.col_types.specs.declared.data_type.DataType.{DataType}
@@ -30,10 +30,14 @@ abbrev pub spanned_by : Option Column → Option Interval
 spanned_by None = None
 spanned_by (Some column) = widened_by None column.slots
 
--- the interval, where it lies in the values of a type whose nodes can be covered
+-- whether the interval has an integer, and lies in the values of a type whose nodes can be covered
+abbrev pub is_fit : Option DataType → Interval → Bool
+is_fit dtype range = fits_type dtype range && int_le range.low range.high
+
+-- the interval, where it is such a one
 abbrev pub fitting : Option DataType → Option Interval → Option Interval
 fitting dtype None = None
-fitting dtype (Some range) = if fits_type dtype range then Some range else None
+fitting dtype (Some range) = if is_fit dtype range then Some range else None
 
 -- the interval that is found for a node: of an input from its slots, of another from what is found
 -- for its operands, or else from their types

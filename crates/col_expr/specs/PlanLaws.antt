@@ -78,4 +78,5 @@ ValidPlansAreKept =
 -- the plan that is found is valid
 abbrev pub FoundPlansAreValid : Type 0
 FoundPlansAreValid =
-    (inputs : List Column) (tree : Tree) → is_plan_valid inputs (found_plan inputs tree) tree ≡ true
+    (inputs : List Column) (tree : Tree) → All IsValidColumn inputs →
+    is_plan_valid inputs (found_plan inputs tree) tree ≡ true

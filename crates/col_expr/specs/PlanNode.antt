@@ -14,6 +14,7 @@ use Rattle.col_expr.specs.declared.part.Part.TheVariants as parts
 use Rattle.col_expr.specs.Tree.{Tree}
 use Rattle.col_expr.specs.Numbers.{Numbers}
 use Rattle.col_expr.specs.Meaning.{dtype_of, cast_dtype, rule_dtype, cast_rule_for, operator_rule_for, scalar_right_rule_for, scalar_left_rule_for, unit_change_rule_for}
+use Rattle.col_expr.specs.FoundPlan.{found_interval, fitting}
 use Rattle.col_expr.specs.Plan.{Plan, cast_formula, rule_formula, scalar_formula, bound_by, bound_of, image_by, fits_type, is_image_inside, is_column_within, rules_hold}
 
 -- ---- a node from its operands' types and bounds
@@ -145,3 +146,18 @@ pub record IsInputPart (planned : Option Interval) (column : Option Column) (par
 abbrev pub IsInput : Option Interval → Option Column → Option Part → Type 0
 IsInput planned column None = keeps_column planned (column_dtype column) column ≡ false
 IsInput planned column (Some part) = IsInputPart planned column part
+
+-- ---- plans that are found
+
+-- a part has the type of the tree, and the bound that is found for it
+pub record IsFoundPart (inputs : List Column) (tree : Tree) (part : Part) : Type 0 where
+  pub typed : part_dtype part ≡ dtype_of inputs tree
+  pub bounded : part_bound part ≡ bound_by (found_interval inputs tree) (dtype_of inputs tree)
+  pub known : IsKnown part
+
+-- a part has the type of the image, and the image as its bound where that fits
+pub record IsCovered (image : Option (DataType × Option Interval)) (part : Part) : Type 0 where
+  pub typed : part_dtype part ≡ image_dtype image
+  pub bounded : part_bound part ≡
+      bound_by (fitting (image_dtype image) (image_interval image)) (image_dtype image)
+  pub known : IsKnown part

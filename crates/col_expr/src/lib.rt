@@ -9,6 +9,7 @@ mod fold_laws;
 #[cfg(test)]
 mod fold_tests;
 mod folded;
+mod found_plan;
 mod inputs;
 mod laws;
 mod node;
@@ -39,5 +40,5 @@ pub use laws::{
 };
 pub use node::UnaryOp;
 pub use plan::RangePlan;
-pub use plan_laws::valid_plans_are_kept;
+pub use plan_laws::{found_plans_are_valid, valid_plans_are_kept};
 pub use steps::Steps;

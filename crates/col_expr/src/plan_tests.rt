@@ -67,6 +67,17 @@ fn plans_right_and_wrong_by_one(rt: HostRuntime) -> Result<(), Fail> {
 }
 
 #[test]
+fn a_found_plan_has_the_least_and_the_greatest_slot(rt: HostRuntime) -> Result<(), Fail> {
+    let alloc = rt.alloc();
+    let inputs = one_input(alloc)?;
+    let plan = RangePlan::of_inputs(alloc, &Expr::input(0), &inputs)?;
+    match plan.bounds(0) {
+        Some((-7, 5)) => Ok(()),
+        _ => Err(Fail::new("other bounds")),
+    }
+}
+
+#[test]
 fn bounds_are_those_given(rt: HostRuntime) -> Result<(), Fail> {
     let plan = plan_of(rt.alloc(), &[(1, -7, 5)])?;
     match (plan.bounds(1), plan.bounds(0)) {
