@@ -101,19 +101,19 @@ fn answer_to(alloc: Global, run: &Run<'_>, step: usize) -> Result<(Status, Memor
 }
 
 /// Whether a run answers as it has to; prints what differs.
-fn is_answered(
-    rt: &(impl Print + Alloc),
-    alloc: Global,
-    run: &Run<'_>,
-    step: usize,
-) -> Result<bool>
+fn is_answered(rt: &(impl Print + Alloc), alloc: Global, run: &Run<'_>, step: usize) -> Result<bool>
     requires step { 0 < step }
 {
     let (status, sink) = answer_to(alloc, run, step)?;
     let same = status.message() == run.status && sink.bytes() == run.answer.as_bytes();
     if !same {
         let text = String::from_utf8_lossy(alloc, sink.bytes())?;
-        println!(rt; "{} by {} at step {step}: {}", run.title, run.words, status.message())?;
+        println!(rt;
+            "{} by {} at step {step}: {}",
+            run.title,
+            run.words,
+            status.message()
+        )?;
         println!(rt; "{}{text}", run.plan)?;
     }
     Ok(same)
@@ -172,7 +172,10 @@ fn main(rt: HostRuntime) -> Result<()> {
         };
         count = count.saturating_add(runs);
     }
-    println!(rt; "{} rows are answered as they have to be, in {count} runs", rows.len())?;
+    println!(rt;
+        "{} rows are answered as they have to be, in {count} runs",
+        rows.len()
+    )?;
     Ok(())
 }
 

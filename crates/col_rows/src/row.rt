@@ -110,13 +110,7 @@ impl Table {
     }
 
     /// What a command has to do with the last expression under a plan, without its answer.
-    fn row(
-        &self,
-        alloc: Global,
-        words: &str,
-        plan: &str,
-        status: &str,
-    ) -> Result<Row, AllocError> {
+    fn row(&self, alloc: Global, words: &str, plan: &str, status: &str) -> Result<Row, AllocError> {
         let mut row = Row::new(alloc);
         row.title.push_str(self.title.as_str())?;
         row.title.push_str(", ")?;
