@@ -54,6 +54,7 @@ fn run_counted<S: Source, K: Sink, L: Ledger>(
 }
 
 /// What is run, and what it has to answer.
+#[derive(Clone, Copy)]
 struct Run<'a> {
     title: &'a str,
     words: &'a str,
@@ -100,23 +101,50 @@ fn answer_to(alloc: Global, run: &Run<'_>, step: usize) -> Result<(Status, Memor
     Ok((status, sink))
 }
 
-/// Whether a run answers as it has to; prints what differs.
+/// Whether a run, which is counted, answers as it has to; prints what differs.
 fn is_answered(
-    rt: &(impl Print + Alloc),
-    alloc: Global,
+    rt: &HostRuntime,
+    runs: &mut usize,
     run: &Run<'_>,
     step: usize,
 ) -> Result<bool>
     requires step { 0 < step }
 {
-    let (status, sink) = answer_to(alloc, run, step)?;
+    let (status, sink) = answer_to(rt.alloc(), run, step)?;
+    *runs = runs.saturating_add(1);
     let same = status.message() == run.status && sink.bytes() == run.answer.as_bytes();
     if !same {
-        let text = String::from_utf8_lossy(alloc, sink.bytes())?;
+        let text = String::from_utf8_lossy(rt.alloc(), sink.bytes())?;
         println!(rt; "{} by {} at step {step}: {}", run.title, run.words, status.message())?;
         println!(rt; "{}{text}", run.plan)?;
     }
     Ok(same)
+}
+
+/// Whether a row is answered by devices of each step.
+fn is_met(rt: &HostRuntime, runs: &mut usize, row: &Row) -> Result<bool> {
+    for step in STEPS {
+        if !is_answered(rt, runs, &run_of(row, row.words.as_str(), ""), step)? {
+            return Ok(false);
+        }
+    }
+    Ok(true)
+}
+
+/// Whether these words answer as the row, with the lines of a plan in front of its script.
+fn are_alike(
+    rt: &HostRuntime,
+    runs: &mut usize,
+    row: &Row,
+    words: &[&str],
+    plan: &str,
+) -> Result<bool> {
+    for word in words {
+        if !is_answered(rt, runs, &run_of(row, word, plan), STEP)? {
+            return Ok(false);
+        }
+    }
+    Ok(true)
 }
 
 /// The lines of the plan that is found for the row's script.
@@ -125,54 +153,36 @@ fn found_plan(alloc: Global, row: &Row) -> Result<String> {
     Ok(String::from_utf8_lossy(alloc, sink.bytes())?)
 }
 
-/// How many runs a row of `eval` has by folding, without a plan, under the plan that is found, under
-/// a false one and under a true one; none where one of them doesn't answer as `eval`.
-fn folds(rt: &(impl Print + Alloc), alloc: Global, row: &Row) -> Result<Option<usize>> {
-    for words in ["fold", "autofold"] {
-        if !is_answered(rt, alloc, &run_of(row, words, ""), STEP)? {
-            return Ok(None);
-        }
+/// Whether the row of `eval` is answered by folding too: without a plan, under a false one, and under
+/// the one that is found, which is true.
+fn is_folded(rt: &HostRuntime, runs: &mut usize, row: &Row) -> Result<bool> {
+    if !are_alike(rt, runs, row, &["fold", "autofold"], "")? {
+        return Ok(false);
     }
     if row.status.as_str() == "bad script" {
-        return Ok(Some(2));
+        return Ok(true);
     }
-    let found = found_plan(alloc, row)?;
-    for (plan, verdict) in [(FALSE_PLAN, "no\n"), (found.as_str(), "yes\n")] {
-        if !is_answered(rt, alloc, &run_of(row, "fold", plan), STEP)?
-            || !is_answered(rt, alloc, &check_of(row, plan, verdict), STEP)?
-        {
-            return Ok(None);
-        }
-    }
-    Ok(Some(6))
-}
-
-/// How many runs a row has, none where one of them doesn't answer as it has to.
-fn runs(rt: &(impl Print + Alloc), alloc: Global, row: &Row) -> Result<Option<usize>> {
-    for step in STEPS {
-        if !is_answered(rt, alloc, &run_of(row, row.words.as_str(), ""), step)? {
-            return Ok(None);
-        }
-    }
-    if row.words.as_str() != "eval" {
-        return Ok(Some(STEPS.len()));
-    }
-    let folds = folds(rt, alloc, row)?;
-    Ok(folds.map(|count| STEPS.len() + count))
+    let found = found_plan(rt.alloc(), row)?;
+    Ok(are_alike(rt, runs, row, &["eval", "fold", "autofold"], FALSE_PLAN)?
+        && is_answered(rt, runs, &check_of(row, FALSE_PLAN, "no\n"), STEP)?
+        && are_alike(rt, runs, row, &["fold"], found.as_str())?
+        && is_answered(rt, runs, &check_of(row, found.as_str(), "yes\n"), STEP)?)
 }
 
 fn main(rt: HostRuntime) -> Result<()> {
     let alloc = rt.alloc();
     let list = io::read_to_string(alloc, rt.reader())?;
     let rows = rows_of(alloc, list.as_str())?;
-    let mut count = 0usize;
+    let mut runs = 0;
     for row in &rows {
-        let Some(runs) = runs(&rt, alloc, row)? else {
+        if !is_met(&rt, &mut runs, row)? {
             return Ok(());
-        };
-        count = count.saturating_add(runs);
+        }
+        if row.words.as_str() == "eval" && !is_folded(&rt, &mut runs, row)? {
+            return Ok(());
+        }
     }
-    println!(rt; "{} rows are answered as they have to be, in {count} runs", rows.len())?;
+    println!(rt; "{} rows are answered as they have to be, in {runs} runs", rows.len())?;
     Ok(())
 }
 

@@ -104,11 +104,6 @@ impl Table {
         Ok(())
     }
 
-    fn set_plan(&mut self, alloc: Global, line: &str) -> Result<(), AllocError> {
-        self.plan = String::from_str(alloc, line)?;
-        Ok(())
-    }
-
     /// What a command has to do with the last expression under a plan, without its answer.
     fn row(
         &self,
@@ -130,18 +125,17 @@ impl Table {
         Ok(row)
     }
 
-    /// The row of the last expression that is evaluated.
-    fn value(&self, alloc: Global, answer: &str) -> Result<Row, AllocError> {
+    /// The row that evaluates the last expression.
+    fn push_value(
+        &self,
+        alloc: Global,
+        rows: &mut Vec<Row>,
+        answer: &str,
+    ) -> Result<(), AllocError> {
         let mut row = self.row(alloc, "eval", "", status_of(answer))?;
         push_answer(&mut row.answer, answer)?;
-        Ok(row)
-    }
-
-    /// The row of the plan that is found for the last expression.
-    fn found(&self, alloc: Global) -> Result<Row, AllocError> {
-        let mut row = self.row(alloc, "plan", "", "done")?;
-        push_plan(&mut row.answer, self.plan.as_str())?;
-        Ok(row)
+        rows.push(row)?;
+        Ok(())
     }
 
     /// The row that checks a plan of the last expression.
@@ -149,6 +143,21 @@ impl Table {
         let mut row = self.row(alloc, "check", plan, "done")?;
         push_answer(&mut row.answer, answer)?;
         Ok(row)
+    }
+
+    /// The rows of the plan that is found for the last expression, which holds.
+    fn push_found(
+        &mut self,
+        alloc: Global,
+        rows: &mut Vec<Row>,
+        plan: &str,
+    ) -> Result<(), AllocError> {
+        self.plan = String::from_str(alloc, plan)?;
+        let mut row = self.row(alloc, "plan", "", "done")?;
+        push_plan(&mut row.answer, plan)?;
+        rows.push(row)?;
+        rows.push(self.verdict(alloc, plan, "yes")?)?;
+        Ok(())
     }
 
     /// The rows that check the last plan with each of these entries in it.
@@ -177,12 +186,8 @@ impl Table {
         match line {
             Line::Script(line) => push_script(&mut self.columns, line),
             Line::Expression(line) => self.set_expression(alloc, line),
-            Line::Wanted(answer) => rows.push(self.value(alloc, answer)?),
-            Line::Found(plan) => {
-                self.set_plan(alloc, plan)?;
-                rows.push(self.found(alloc)?)?;
-                rows.push(self.verdict(alloc, plan, "yes")?)
-            }
+            Line::Wanted(answer) => self.push_value(alloc, rows, answer),
+            Line::Found(plan) => self.push_found(alloc, rows, plan),
             Line::Denied(entries) => self.push_denied(alloc, rows, entries),
             _ => Ok(()),
         }
