@@ -17,8 +17,17 @@ use std::sync::ledger::{Blank, Ledger};
 /// How many bytes the devices move at a call.
 const STEPS: [usize; 4] = [1, 3, 7, 4096];
 
-/// The same where a row is run once more.
-const STEP: usize = 4096;
+/// The step of one run of many, each in turn.
+fn step_in_turn(runs: usize) -> usize
+    ensures step { 0 < result }
+{
+    match runs % 4 {
+        0 => 1,
+        1 => 3,
+        2 => 7,
+        _ => 4096,
+    }
+}
 
 /// A plan that no expression keeps, whose intervals are narrow: no tree has the last node.
 const FALSE_PLAN: &str = "\
@@ -102,12 +111,7 @@ fn answer_to(alloc: Global, run: &Run<'_>, step: usize) -> Result<(Status, Memor
 }
 
 /// Whether a run, which is counted, answers as it has to; prints what differs.
-fn is_answered(
-    rt: &HostRuntime,
-    runs: &mut usize,
-    run: &Run<'_>,
-    step: usize,
-) -> Result<bool>
+fn is_answered(rt: &HostRuntime, runs: &mut usize, run: &Run<'_>, step: usize) -> Result<bool>
     requires step { 0 < step }
 {
     let (status, sink) = answer_to(rt.alloc(), run, step)?;
@@ -115,32 +119,31 @@ fn is_answered(
     let same = status.message() == run.status && sink.bytes() == run.answer.as_bytes();
     if !same {
         let text = String::from_utf8_lossy(rt.alloc(), sink.bytes())?;
-        println!(rt; "{} by {} at step {step}: {}", run.title, run.words, status.message())?;
+        println!(rt;
+            "{} by {} at step {step}: {}",
+            run.title,
+            run.words,
+            status.message()
+        )?;
         println!(rt; "{}{text}", run.plan)?;
     }
     Ok(same)
 }
 
-/// Whether a row is answered by devices of each step.
-fn is_met(rt: &HostRuntime, runs: &mut usize, row: &Row) -> Result<bool> {
-    for step in STEPS {
-        if !is_answered(rt, runs, &run_of(row, row.words.as_str(), ""), step)? {
-            return Ok(false);
-        }
-    }
-    Ok(true)
+/// The same, by devices of the step whose turn it is.
+fn is_answered_in_turn(rt: &HostRuntime, runs: &mut usize, run: &Run<'_>) -> Result<bool> {
+    let step = step_in_turn(*runs);
+    is_answered(rt, runs, run, step)
 }
 
-/// Whether these words answer as the row, with the lines of a plan in front of its script.
-fn are_alike(
-    rt: &HostRuntime,
-    runs: &mut usize,
-    row: &Row,
-    words: &[&str],
-    plan: &str,
-) -> Result<bool> {
-    for word in words {
-        if !is_answered(rt, runs, &run_of(row, word, plan), STEP)? {
+/// Whether a row is answered: one by hand by devices of each step.
+fn is_met(rt: &HostRuntime, runs: &mut usize, row: &Row) -> Result<bool> {
+    let run = run_of(row, row.words.as_str(), "");
+    if row.in_table {
+        return is_answered_in_turn(rt, runs, &run);
+    }
+    for step in STEPS {
+        if !is_answered(rt, runs, &run, step)? {
             return Ok(false);
         }
     }
@@ -149,24 +152,48 @@ fn are_alike(
 
 /// The lines of the plan that is found for the row's script.
 fn found_plan(alloc: Global, row: &Row) -> Result<String> {
-    let (_, sink) = answer_to(alloc, &run_of(row, "plan", ""), STEP)?;
+    let (_, sink) = answer_to(alloc, &run_of(row, "plan", ""), 4096)?;
     Ok(String::from_utf8_lossy(alloc, sink.bytes())?)
 }
 
-/// Whether the row of `eval` is answered by folding too: without a plan, under a false one, and under
-/// the one that is found, which is true.
+/// Whether these words answer as the row of `eval`, with the lines of a plan in front of its script.
+fn is_alike(
+    rt: &HostRuntime,
+    runs: &mut usize,
+    row: &Row,
+    words: &str,
+    plan: &str,
+) -> Result<bool> {
+    is_answered_in_turn(rt, runs, &run_of(row, words, plan))
+}
+
+/// Whether the check of a plan for the row's script answers this.
+fn is_checked(
+    rt: &HostRuntime,
+    runs: &mut usize,
+    row: &Row,
+    plan: &str,
+    answer: &str,
+) -> Result<bool> {
+    is_answered_in_turn(rt, runs, &check_of(row, plan, answer))
+}
+
+/// Whether folding answers as the row of `eval`: without a plan, under a false one, and under the one
+/// that is found, which is true.
 fn is_folded(rt: &HostRuntime, runs: &mut usize, row: &Row) -> Result<bool> {
-    if !are_alike(rt, runs, row, &["fold", "autofold"], "")? {
+    if !is_alike(rt, runs, row, "fold", "")? || !is_alike(rt, runs, row, "autofold", "")? {
         return Ok(false);
     }
     if row.status.as_str() == "bad script" {
         return Ok(true);
     }
     let found = found_plan(rt.alloc(), row)?;
-    Ok(are_alike(rt, runs, row, &["eval", "fold", "autofold"], FALSE_PLAN)?
-        && is_answered(rt, runs, &check_of(row, FALSE_PLAN, "no\n"), STEP)?
-        && are_alike(rt, runs, row, &["fold"], found.as_str())?
-        && is_answered(rt, runs, &check_of(row, found.as_str(), "yes\n"), STEP)?)
+    Ok(
+        is_alike(rt, runs, row, "fold", FALSE_PLAN)?
+            && is_checked(rt, runs, row, FALSE_PLAN, "no\n")?
+            && is_alike(rt, runs, row, "fold", found.as_str())?
+            && is_checked(rt, runs, row, found.as_str(), "yes\n")?,
+    )
 }
 
 fn main(rt: HostRuntime) -> Result<()> {
@@ -182,7 +209,10 @@ fn main(rt: HostRuntime) -> Result<()> {
             return Ok(());
         }
     }
-    println!(rt; "{} rows are answered as they have to be, in {runs} runs", rows.len())?;
+    println!(rt;
+        "{} rows are answered as they have to be, in {runs} runs",
+        rows.len()
+    )?;
     Ok(())
 }
 

@@ -9,6 +9,7 @@ pub struct Row {
     pub script: String,
     pub status: String,
     pub answer: String,
+    pub in_table: bool,
 }
 
 /// The columns that many expressions share, with the expression and the plan that stand last.
@@ -75,6 +76,7 @@ impl Row {
             script: String::new(alloc),
             status: String::new(alloc),
             answer: String::new(alloc),
+            in_table: false,
         }
     }
 
@@ -105,14 +107,9 @@ impl Table {
     }
 
     /// What a command has to do with the last expression under a plan, without its answer.
-    fn row(
-        &self,
-        alloc: Global,
-        words: &str,
-        plan: &str,
-        status: &str,
-    ) -> Result<Row, AllocError> {
+    fn row(&self, alloc: Global, words: &str, plan: &str, status: &str) -> Result<Row, AllocError> {
         let mut row = Row::new(alloc);
+        row.in_table = true;
         row.title.push_str(self.title.as_str())?;
         row.title.push_str(", ")?;
         row.title.push_str(self.expression.as_str())?;
