@@ -17,8 +17,17 @@ use std::sync::ledger::{Blank, Ledger};
 /// How many bytes the devices move at a call.
 const STEPS: [usize; 4] = [1, 3, 7, 4096];
 
-/// The same where a row is run once more.
-const STEP: usize = 4096;
+/// The step of one run of many, each in turn.
+fn step_in_turn(runs: usize) -> usize
+    ensures step { 0 < result }
+{
+    match runs % 4 {
+        0 => 1,
+        1 => 3,
+        2 => 7,
+        _ => 4096,
+    }
+}
 
 /// A plan that no expression keeps, whose intervals are narrow: no tree has the last node.
 const FALSE_PLAN: &str = "\
@@ -54,6 +63,7 @@ fn run_counted<S: Source, K: Sink, L: Ledger>(
 }
 
 /// What is run, and what it has to answer.
+#[derive(Clone, Copy)]
 struct Run<'a> {
     title: &'a str,
     words: &'a str,
@@ -100,14 +110,24 @@ fn answer_to(alloc: Global, run: &Run<'_>, step: usize) -> Result<(Status, Memor
     Ok((status, sink))
 }
 
+<<<<<<< HEAD
 /// Whether a run answers as it has to; prints what differs.
 fn is_answered(rt: &(impl Print + Alloc), alloc: Global, run: &Run<'_>, step: usize) -> Result<bool>
+=======
+/// Whether a run, which is counted, answers as it has to; prints what differs.
+fn is_answered(rt: &HostRuntime, runs: &mut usize, run: &Run<'_>, step: usize) -> Result<bool>
+>>>>>>> origin/rows
     requires step { 0 < step }
 {
-    let (status, sink) = answer_to(alloc, run, step)?;
+    let (status, sink) = answer_to(rt.alloc(), run, step)?;
+    *runs = runs.saturating_add(1);
     let same = status.message() == run.status && sink.bytes() == run.answer.as_bytes();
     if !same {
+<<<<<<< HEAD
         let text = String::from_utf8_lossy(alloc, sink.bytes())?;
+=======
+        let text = String::from_utf8_lossy(rt.alloc(), sink.bytes())?;
+>>>>>>> origin/rows
         println!(rt;
             "{} by {} at step {step}: {}",
             run.title,
@@ -119,61 +139,91 @@ fn is_answered(rt: &(impl Print + Alloc), alloc: Global, run: &Run<'_>, step: us
     Ok(same)
 }
 
+/// The same, by devices of the step whose turn it is.
+fn is_answered_in_turn(rt: &HostRuntime, runs: &mut usize, run: &Run<'_>) -> Result<bool> {
+    let step = step_in_turn(*runs);
+    is_answered(rt, runs, run, step)
+}
+
+/// Whether a row is answered: one by hand by devices of each step.
+fn is_met(rt: &HostRuntime, runs: &mut usize, row: &Row) -> Result<bool> {
+    let run = run_of(row, row.words.as_str(), "");
+    if row.in_table {
+        return is_answered_in_turn(rt, runs, &run);
+    }
+    for step in STEPS {
+        if !is_answered(rt, runs, &run, step)? {
+            return Ok(false);
+        }
+    }
+    Ok(true)
+}
+
 /// The lines of the plan that is found for the row's script.
 fn found_plan(alloc: Global, row: &Row) -> Result<String> {
-    let (_, sink) = answer_to(alloc, &run_of(row, "plan", ""), STEP)?;
+    let (_, sink) = answer_to(alloc, &run_of(row, "plan", ""), 4096)?;
     Ok(String::from_utf8_lossy(alloc, sink.bytes())?)
 }
 
-/// How many runs a row of `eval` has by folding, without a plan, under the plan that is found, under
-/// a false one and under a true one; none where one of them doesn't answer as `eval`.
-fn folds(rt: &(impl Print + Alloc), alloc: Global, row: &Row) -> Result<Option<usize>> {
-    for words in ["fold", "autofold"] {
-        if !is_answered(rt, alloc, &run_of(row, words, ""), STEP)? {
-            return Ok(None);
-        }
-    }
-    if row.status.as_str() == "bad script" {
-        return Ok(Some(2));
-    }
-    let found = found_plan(alloc, row)?;
-    for (plan, verdict) in [(FALSE_PLAN, "no\n"), (found.as_str(), "yes\n")] {
-        if !is_answered(rt, alloc, &run_of(row, "fold", plan), STEP)?
-            || !is_answered(rt, alloc, &check_of(row, plan, verdict), STEP)?
-        {
-            return Ok(None);
-        }
-    }
-    Ok(Some(6))
+/// Whether these words answer as the row of `eval`, with the lines of a plan in front of its script.
+fn is_alike(
+    rt: &HostRuntime,
+    runs: &mut usize,
+    row: &Row,
+    words: &str,
+    plan: &str,
+) -> Result<bool> {
+    is_answered_in_turn(rt, runs, &run_of(row, words, plan))
 }
 
-/// How many runs a row has, none where one of them doesn't answer as it has to.
-fn runs(rt: &(impl Print + Alloc), alloc: Global, row: &Row) -> Result<Option<usize>> {
-    for step in STEPS {
-        if !is_answered(rt, alloc, &run_of(row, row.words.as_str(), ""), step)? {
-            return Ok(None);
-        }
+/// Whether the check of a plan for the row's script answers this.
+fn is_checked(
+    rt: &HostRuntime,
+    runs: &mut usize,
+    row: &Row,
+    plan: &str,
+    answer: &str,
+) -> Result<bool> {
+    is_answered_in_turn(rt, runs, &check_of(row, plan, answer))
+}
+
+/// Whether folding answers as the row of `eval`: without a plan, under a false one, and under the one
+/// that is found, which is true.
+fn is_folded(rt: &HostRuntime, runs: &mut usize, row: &Row) -> Result<bool> {
+    if !is_alike(rt, runs, row, "fold", "")? || !is_alike(rt, runs, row, "autofold", "")? {
+        return Ok(false);
     }
-    if row.words.as_str() != "eval" {
-        return Ok(Some(STEPS.len()));
+    if row.status.as_str() == "bad script" {
+        return Ok(true);
     }
-    let folds = folds(rt, alloc, row)?;
-    Ok(folds.map(|count| STEPS.len() + count))
+    let found = found_plan(rt.alloc(), row)?;
+    Ok(
+        is_alike(rt, runs, row, "fold", FALSE_PLAN)?
+            && is_checked(rt, runs, row, FALSE_PLAN, "no\n")?
+            && is_alike(rt, runs, row, "fold", found.as_str())?
+            && is_checked(rt, runs, row, found.as_str(), "yes\n")?,
+    )
 }
 
 fn main(rt: HostRuntime) -> Result<()> {
     let alloc = rt.alloc();
     let list = io::read_to_string(alloc, rt.reader())?;
     let rows = rows_of(alloc, list.as_str())?;
-    let mut count = 0usize;
+    let mut runs = 0;
     for row in &rows {
-        let Some(runs) = runs(&rt, alloc, row)? else {
+        if !is_met(&rt, &mut runs, row)? {
             return Ok(());
-        };
-        count = count.saturating_add(runs);
+        }
+        if row.words.as_str() == "eval" && !is_folded(&rt, &mut runs, row)? {
+            return Ok(());
+        }
     }
     println!(rt;
+<<<<<<< HEAD
         "{} rows are answered as they have to be, in {count} runs",
+=======
+        "{} rows are answered as they have to be, in {runs} runs",
+>>>>>>> origin/rows
         rows.len()
     )?;
     Ok(())

@@ -9,6 +9,7 @@ pub struct Row {
     pub script: String,
     pub status: String,
     pub answer: String,
+    pub in_table: bool,
 }
 
 /// The columns that many expressions share, with the expression and the plan that stand last.
@@ -75,6 +76,7 @@ impl Row {
             script: String::new(alloc),
             status: String::new(alloc),
             answer: String::new(alloc),
+            in_table: false,
         }
     }
 
@@ -104,14 +106,10 @@ impl Table {
         Ok(())
     }
 
-    fn set_plan(&mut self, alloc: Global, line: &str) -> Result<(), AllocError> {
-        self.plan = String::from_str(alloc, line)?;
-        Ok(())
-    }
-
     /// What a command has to do with the last expression under a plan, without its answer.
     fn row(&self, alloc: Global, words: &str, plan: &str, status: &str) -> Result<Row, AllocError> {
         let mut row = Row::new(alloc);
+        row.in_table = true;
         row.title.push_str(self.title.as_str())?;
         row.title.push_str(", ")?;
         row.title.push_str(self.expression.as_str())?;
@@ -124,18 +122,17 @@ impl Table {
         Ok(row)
     }
 
-    /// The row of the last expression that is evaluated.
-    fn value(&self, alloc: Global, answer: &str) -> Result<Row, AllocError> {
+    /// The row that evaluates the last expression.
+    fn push_value(
+        &self,
+        alloc: Global,
+        rows: &mut Vec<Row>,
+        answer: &str,
+    ) -> Result<(), AllocError> {
         let mut row = self.row(alloc, "eval", "", status_of(answer))?;
         push_answer(&mut row.answer, answer)?;
-        Ok(row)
-    }
-
-    /// The row of the plan that is found for the last expression.
-    fn found(&self, alloc: Global) -> Result<Row, AllocError> {
-        let mut row = self.row(alloc, "plan", "", "done")?;
-        push_plan(&mut row.answer, self.plan.as_str())?;
-        Ok(row)
+        rows.push(row)?;
+        Ok(())
     }
 
     /// The row that checks a plan of the last expression.
@@ -143,6 +140,21 @@ impl Table {
         let mut row = self.row(alloc, "check", plan, "done")?;
         push_answer(&mut row.answer, answer)?;
         Ok(row)
+    }
+
+    /// The rows of the plan that is found for the last expression, which holds.
+    fn push_found(
+        &mut self,
+        alloc: Global,
+        rows: &mut Vec<Row>,
+        plan: &str,
+    ) -> Result<(), AllocError> {
+        self.plan = String::from_str(alloc, plan)?;
+        let mut row = self.row(alloc, "plan", "", "done")?;
+        push_plan(&mut row.answer, plan)?;
+        rows.push(row)?;
+        rows.push(self.verdict(alloc, plan, "yes")?)?;
+        Ok(())
     }
 
     /// The rows that check the last plan with each of these entries in it.
@@ -171,12 +183,8 @@ impl Table {
         match line {
             Line::Script(line) => push_script(&mut self.columns, line),
             Line::Expression(line) => self.set_expression(alloc, line),
-            Line::Wanted(answer) => rows.push(self.value(alloc, answer)?),
-            Line::Found(plan) => {
-                self.set_plan(alloc, plan)?;
-                rows.push(self.found(alloc)?)?;
-                rows.push(self.verdict(alloc, plan, "yes")?)
-            }
+            Line::Wanted(answer) => self.push_value(alloc, rows, answer),
+            Line::Found(plan) => self.push_found(alloc, rows, plan),
             Line::Denied(entries) => self.push_denied(alloc, rows, entries),
             _ => Ok(()),
         }
