@@ -110,24 +110,15 @@ fn answer_to(alloc: Global, run: &Run<'_>, step: usize) -> Result<(Status, Memor
     Ok((status, sink))
 }
 
-<<<<<<< HEAD
-/// Whether a run answers as it has to; prints what differs.
-fn is_answered(rt: &(impl Print + Alloc), alloc: Global, run: &Run<'_>, step: usize) -> Result<bool>
-=======
 /// Whether a run, which is counted, answers as it has to; prints what differs.
 fn is_answered(rt: &HostRuntime, runs: &mut usize, run: &Run<'_>, step: usize) -> Result<bool>
->>>>>>> origin/rows
     requires step { 0 < step }
 {
     let (status, sink) = answer_to(rt.alloc(), run, step)?;
     *runs = runs.saturating_add(1);
     let same = status.message() == run.status && sink.bytes() == run.answer.as_bytes();
     if !same {
-<<<<<<< HEAD
-        let text = String::from_utf8_lossy(alloc, sink.bytes())?;
-=======
         let text = String::from_utf8_lossy(rt.alloc(), sink.bytes())?;
->>>>>>> origin/rows
         println!(rt;
             "{} by {} at step {step}: {}",
             run.title,
@@ -219,11 +210,7 @@ fn main(rt: HostRuntime) -> Result<()> {
         }
     }
     println!(rt;
-<<<<<<< HEAD
-        "{} rows are answered as they have to be, in {count} runs",
-=======
         "{} rows are answered as they have to be, in {runs} runs",
->>>>>>> origin/rows
         rows.len()
     )?;
     Ok(())
