@@ -4,16 +4,20 @@
 mod appending;
 mod array;
 mod chunk;
+mod cursor;
 mod folds;
+mod items;
 mod parts;
 mod reductions;
 mod rows;
 mod setting;
+mod taking;
 mod word_chunk;
 mod words;
 
 pub use array::{ArrayOf, ROW_LIMIT};
 pub use chunk::{Chunk, SetChunk, View};
+pub use cursor::Place;
 pub use col_kernel::{Word, rescale_slot};
 pub use word_chunk::{WordBuilder, WordChunk};
 pub use words::{
