@@ -1,12 +1,14 @@
 -- Where chunks start, and the chunk that has a row.
-use Rattle.std.specs.Prelude.{◌≡◌, ◌+◌, ◌-◌, ◌≤◌, ◌<◌, ℕ, zero, suc, List, [], ◌∷◌, ◌++◌, length, take, drop, sum, slice_index_or, Option, None}
+use Rattle.std.specs.Prelude.{◌≡◌, ◌+◌, ◌-◌, ◌≤◌, ◌<◌, ℕ, zero, suc, List, [], ◌∷◌, ◌++◌, length, take, drop, sum, Option, Some, None}
 use Rattle.std.specs.List.{flat_map}
+use Rattle.std.specs.Option.{option_and_then}
 use Rattle.std.proofs.Common.{subst, ap, sym, ◌∙◌, refl, arith, get_or}
-use Rattle.std.proofs.lemmas.List.{take_all, length-append, get_or_append_left, get_or-append-add}
+use Rattle.std.proofs.lemmas.List.{take_all, length-append, get_or_append_left, get_or-append-add, get_or_past}
 use Rattle.std.proofs.lemmas.List.Sums.{sum_by-cons}
 use Rattle.std.proofs.Math.Seq.{drop-append-add}
 use Rattle.col_model.specs.Value.{Value}
-use Rattle.col_chunk.specs.Chunks.{lengths_of, rows_from, starts_of}
+use Rattle.col_model.specs.Chunked.{Chunked}
+use Rattle.col_chunk.specs.Chunks.{lengths_of, rows_from, rows_left, starts_of}
 
 module _ {C : Type 0} (slots : C → List (Option Value)) where
   pub length-starts : (n : ℕ) (chunks : List C) → length (starts_of slots n chunks) ≡ suc (length chunks)
@@ -90,3 +92,28 @@ module _ {C : Type 0} (slots : C → List (Option Value)) where
       rows-at chunk skip cs
       ∙ sym (drop-append-add (slots c) (flat_map slots cs) (before + skip))
       ∙ ap (λ (n : ℕ). drop n (slots c ++ flat_map slots cs)) is
+
+  -- the same in a chunk that was read
+  pub found-in : (starts : List ℕ) (chunks : List C) (at row : ℕ) (chunk : C) → chunk ≡ get_or chunks at chunk
+      → starts ≡ starts_of slots 0 chunks → at + 1 < length starts → get_or starts at 0 ≤ row → row < get_or starts (at + 1) 0
+      → (row - get_or starts at 0 < length (slots chunk)) × (get_or (slots chunk) (row - get_or starts at 0) None ≡ get_or (flat_map slots chunks) row None)
+  found-in starts chunks at row chunk is e inside from to =
+      let place : ℕ = row - get_or starts at 0 in
+      subst (λ (p : C). (place < length (slots p)) × (get_or (slots p) place None ≡ get_or (flat_map slots chunks) row None)) (sym is)
+      (found-by starts chunks at row chunk e inside from to place refl)
+
+  -- the same of a column
+  pub left-at : (chunk skip : ℕ) (chunks items : List C) (v w : Chunked) → chunks ≡ items → v.chunk_lengths ≡ lengths_of slots items
+      → v.column.slots ≡ flat_map slots items → v ≡ w → rows_from slots chunk skip chunks ≡ rows_left chunk skip w
+  left-at chunk skip chunks items v w same lengths rows is =
+      ap (rows_from slots chunk skip) same ∙ rows-at chunk skip items
+      ∙ ap (λ (ns : List ℕ). drop (sum (take chunk ns) + skip) (flat_map slots items)) (sym lengths)
+      ∙ ap (drop (sum (take chunk v.chunk_lengths) + skip)) (sym rows)
+      ∙ ap (rows_left chunk skip) is
+
+-- no slot where there is no such row
+pub no-row : (rows : List (Option Value)) (row : Option ℕ) (r : ℕ) → row ≡ Some r → length rows ≤ r
+    → None ≡ option_and_then (λ n. get_or rows n None) row
+no-row rows row r is past = sym (ap (option_and_then (λ n. get_or rows n None)) is ∙ get_or_past rows r None past)
+
+pub ruleset start_laws = (length-starts, start-at)

@@ -1,12 +1,17 @@
 -- The first index past the end.
-use Rattle.std.specs.Prelude.{◌≡◌, ◌+◌, ◌<◌, ℕ, ℤ, pos, negsuc, Bool, true, false, not, nat_lt, cond, List, [], ◌∷◌, ◌++◌, length, drop, map, slice_index_or, Option, Some, None, if◌then◌else◌}
+use Rattle.std.specs.Prelude.{◌≡◌, ◌+◌, ◌-◌, ◌^◌, ◌<◌, ◌≤ℤ◌, ℕ, ℤ, pos, negsuc, Bool, true, false, not, nat_lt, cond, List, [], ◌∷◌, ◌++◌, length, drop, map, slice_index_or, Option, Some, None, if◌then◌else◌}
 use Rattle.std.specs.List.{find, flat_map}
 use Rattle.std.specs.Option.{option_and_then, option_or}
 use Rattle.std.proofs.Common.{refl, ap, sym, ◌∙◌, arith, get_or}
-use Rattle.std.proofs.lemmas.List.{drop_more}
-use Rattle.col_model.specs.Value.{Value, Flat, Nested, Whole, Bytes}
+use Rattle.std.proofs.lemmas.List.{drop_more, get_or-map, length-map}
+use Rattle.col_model.specs.Value.{Value, Flat, Nested, Whole, Bytes, whole}
+use Rattle.std.specs.Int.{w32}
+use Rattle.std.proofs.lemmas.Int.{ints}
+use Rattle.col_model.specs.Arithmetic.{Unsigned, word_values, wrapped_value}
+use Rattle.col_model.proofs.WithinLemmas.{is_within-true}
+use Rattle.col_model.proofs.WordLemmas.{wrapped_value-within}
 use Rattle.col_model.specs.ChunkCalls.{is_outside, named_row}
-use Rattle.col_chunk.specs.Chunks.{row_past}
+use Rattle.col_chunk.specs.Chunks.{row_past, word_slots}
 use Rattle.col_chunk.proofs.Pieces.{pieces-from}
 
 -- the row that the first index past the end names
@@ -52,3 +57,22 @@ outside-chunks slots rows chunks i chunk o h e is =
     ap (outside_row rows) (pieces-from slots chunks i chunk h e)
     ∙ outside-append rows (slots chunk) rest
     ∙ ap (λ (p : Option ℕ). option_or p (outside_row rows rest)) (sym is)
+
+-- the row that a word names
+pub row-of-slot : {T : Type 0} (reading : T → ℤ) (x : T) (row : ℕ) (slot : Option Value) → Some (whole (reading x)) ≡ slot
+    → reading x ≡ pos row → Some row ≡ named_row slot
+row-of-slot reading x row slot is e = sym (ap (λ (z : ℤ). named_row (Some (whole z))) e) ∙ ap named_row is
+
+pub row-of-word : {T : Type 0} (reading : T → ℤ) (xs : List T) (i row : ℕ) (d : T) → i < length (word_slots reading xs)
+    → reading (get_or xs i d) ≡ pos row → Some row ≡ named_row (slice_index_or (word_slots reading xs) i None)
+row-of-word {T} reading xs i row d h e =
+    let inside : i < length xs = omega (arith, h, length-map xs (λ (x : T). Some (whole (reading x)))) in
+    row-of-slot reading (get_or xs i d) row (get_or (word_slots reading xs) i None)
+    (sym (get_or-map (λ (x : T). Some (whole (reading x))) xs i d None inside)) e
+
+-- a number of a row is read as it is
+pub kept-number : (n : ℕ) → n < 2 ^ 32 → wrapped_value (Unsigned w32) (pos n) ≡ pos n
+kept-number n h =
+    let low : pos 0 ≤ℤ pos n = omega (arith, ints) in
+    let high : pos n ≤ℤ pos (2 ^ 32 - 1) = omega (arith, ints, h) in
+    wrapped_value-within (Unsigned w32) (pos n) (is_within-true (word_values (Unsigned w32)) (pos n) (record { low = low; high = high }))

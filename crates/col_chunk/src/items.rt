@@ -1,9 +1,10 @@
 //! Columns of words that an iterator gives.
 #![tactic(auto, using(crate::proofs::WordLaws::word_laws))]
 
-ghost use Rattle.std.specs.Prelude.{◌≡◌, ◌∷◌, ◌++◌, [], OnOk, map};
+ghost use Rattle.std.specs.Prelude.{◌≡◌, ◌<◌, ◌^◌, ◌∷◌, ◌++◌, [], IfOk, OnOk, length, map};
 ghost use Rattle.std.specs.Option.{option_map};
-ghost use Rattle.col_types.specs.PolarsError.{Gives};
+ghost use Rattle.col_types.specs.declared.is_sorted.IsSorted.TheVariants.{Not};
+ghost use Rattle.col_model.specs.Chunked.{in_one_chunk};
 ghost use Rattle.col_model.specs.ChunkCalls.{new_column};
 ghost use Rattle.col_model.specs.Items.{AnswersItems};
 ghost use Rattle.col_model.specs.Value.{whole};
@@ -13,7 +14,7 @@ use crate::array::ROW_LIMIT;
 use crate::word_chunk::push_slot;
 use crate::{ArrayOf, Chunk, WordBuilder, WordChunk};
 use col_kernel::Word;
-use col_types::{PlSmallStr, PolarsError, PolarsResult};
+use col_types::{IsSorted, PlSmallStr, PolarsError, PolarsResult};
 use std::alloc::{AllocError, Global};
 
 impl<T: Word> ArrayOf<WordChunk<T>> {
@@ -29,12 +30,12 @@ impl<T: Word> ArrayOf<WordChunk<T>> {
             (λ items. new_column name (word_dtype T.word_type)
             (map (λ item. option_map (λ x. whole (T.reading x)) item) items)) result }
     {
-        let mut items = items;
+        let mut rest = items;
         let mut builder = WordChunk::<T>::builder(alloc, 0)?;
         for _row in 0..ROW_LIMIT {
-            match items.next() {
+            match rest.next() {
                 Some(item) => push_item(&mut builder, item)?,
-                None => return of_items(alloc, name, builder),
+                None => return Ok(of_items(alloc, name, builder)?),
             }
         }
         Err(PolarsError::TooLong {
@@ -43,16 +44,26 @@ impl<T: Word> ArrayOf<WordChunk<T>> {
     }
 }
 
-/// A column of what was written.
+/// A column of what was written, which are fewer than 2^32 slots.
 fn of_items<T: Word>(
     alloc: Global,
     name: PlSmallStr,
     builder: WordBuilder<T>,
-) -> PolarsResult<ArrayOf<WordChunk<T>>>
-    ensures column { Gives result (new_column name (word_dtype T.word_type) builder) }
+) -> Result<ArrayOf<WordChunk<T>>, AllocError>
+    requires short { length builder < 2 ^ 32 }
+    ensures column { IfOk result (λ column. column ≡ in_one_chunk (record { name = name;
+        dtype = word_dtype T.word_type; slots = builder; flag = Not })) }
 {
     let chunk = WordChunk::<T>::build(alloc, builder)?;
-    ArrayOf::from_chunk(alloc, name, chunk)
+    let len = chunk.len();
+    let mut chunks = Vec::new(alloc);
+    chunks.push(chunk)?;
+    Ok(ArrayOf {
+        name,
+        chunks,
+        len,
+        flag: IsSorted::Not,
+    })
 }
 
 /// Writes an item behind what was written.

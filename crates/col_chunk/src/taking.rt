@@ -1,6 +1,6 @@
 //! Rows by their numbers.
 
-ghost use Rattle.std.specs.Prelude.{◌≡◌, ◌+◌, ◌-◌, ◌<◌, ◌≤◌, ◌^◌, ◌∷◌, ◌++◌, [], IfOk, List, None, OnOk, Option, length, map, slice_index_or};
+ghost use Rattle.std.specs.Prelude.{◌≡◌, ◌+◌, ◌-◌, ◌<◌, ◌≤◌, ◌^◌, ◌∷◌, ◌++◌, [], IfOk, List, None, OnOk, Option, length, map, pos, slice_index_or};
 ghost use Rattle.std.specs.List.{find};
 ghost use Rattle.std.specs.Option.{option_and_then};
 ghost use Rattle.col_types.specs.PolarsError.{GivesBy};
@@ -91,7 +91,7 @@ impl Indices for WordChunk<IdxSize> {
 
     fn row_at(&self, at: usize) -> Option<usize> {
         match self.get(at) {
-            Some(index) => Some(index as usize),
+            Some(index) => Some(row_of(index)),
             None => None,
         }
     }
@@ -111,8 +111,15 @@ impl<'a> Indices for Numbers<'a> {
     }
 
     fn row_at(&self, at: usize) -> Option<usize> {
-        Some(self.numbers[at] as usize)
+        Some(row_of(self.numbers[at]))
     }
+}
+
+/// The row of a number.
+fn row_of(index: IdxSize) -> usize
+    ensures row { ⟦<u32 as Word>⟧.reading index ≡ pos result }
+{
+    index as usize
 }
 
 /// The row, where it is past the end.
@@ -120,14 +127,8 @@ fn row_past(rows: usize, row: Option<usize>) -> Option<usize>
     ensures row { result ≡ row_past rows row }
 {
     match row {
-        Some(row) => {
-            if row < rows {
-                None
-            } else {
-                Some(row)
-            }
-        }
-        None => None,
+        Some(row) if row >= rows => Some(row),
+        _ => None,
     }
 }
 
@@ -216,6 +217,7 @@ fn gather_onto<C: Chunk, I: Indices>(
 }
 
 /// Writes the slot of a row, null where there is none.
+#[tactic(auto, using(crate::proofs::StartLaws::start_laws))]
 fn push_row<C: Chunk>(
     chunks: &[C],
     starts: &[usize],
@@ -241,7 +243,7 @@ fn push_row<C: Chunk>(
 }
 
 /// Where each chunk starts, and where the last one ends.
-pub(crate) fn starts<C: Chunk>(alloc: Global, chunks: &[C]) -> Result<Vec<usize>, AllocError>
+fn starts<C: Chunk>(alloc: Global, chunks: &[C]) -> Result<Vec<usize>, AllocError>
     requires short { length (joined C.slots chunks.now) < 2 ^ 32 }
     ensures starts { IfOk result (λ starts. starts.items ≡ starts_of C.slots 0 chunks.now) }
 {
@@ -256,7 +258,8 @@ pub(crate) fn starts<C: Chunk>(alloc: Global, chunks: &[C]) -> Result<Vec<usize>
 }
 
 /// The chunk that has a row, and where it has it, found by halving.
-pub(crate) fn halved<'a, C: Chunk>(
+#[tactic(auto, using(crate::proofs::StartLaws::start_laws))]
+fn halved<'a, C: Chunk>(
     chunks: &'a [C],
     starts: &[usize],
     row: usize,
