@@ -5,4 +5,3 @@ pub mod FoldLaws
 pub mod TakeLaws
 pub mod CursorLaws
 pub mod StartLaws
-pub mod ItemLaws

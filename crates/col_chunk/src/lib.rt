@@ -6,7 +6,6 @@ mod array;
 mod chunk;
 mod cursor;
 mod folds;
-mod items;
 mod parts;
 mod reductions;
 mod rows;
@@ -17,8 +16,8 @@ mod words;
 
 pub use array::{ArrayOf, ROW_LIMIT};
 pub use chunk::{Chunk, SetChunk, View};
-pub use cursor::Place;
 pub use col_kernel::{Word, rescale_slot};
+pub use cursor::Place;
 pub use word_chunk::{WordBuilder, WordChunk};
 pub use words::{
     ChunkView, ChunkedArray, IdxCa, Int8Chunked, Int16Chunked, Int32Chunked, Int64Chunked,

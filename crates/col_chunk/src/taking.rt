@@ -259,11 +259,7 @@ fn starts<C: Chunk>(alloc: Global, chunks: &[C]) -> Result<Vec<usize>, AllocErro
 
 /// The chunk that has a row, and where it has it, found by halving.
 #[tactic(auto, using(crate::proofs::StartLaws::start_laws))]
-fn halved<'a, C: Chunk>(
-    chunks: &'a [C],
-    starts: &[usize],
-    row: usize,
-) -> (&'a C, usize)
+fn halved<'a, C: Chunk>(chunks: &'a [C], starts: &[usize], row: usize) -> (&'a C, usize)
     requires starts { starts.now ≡ starts_of C.slots 0 chunks.now }
     requires row { row < length (joined C.slots chunks.now) }
     ensures inside { result.1 < length (C.slots result.0.now) }

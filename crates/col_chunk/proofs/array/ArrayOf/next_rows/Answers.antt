@@ -17,5 +17,5 @@ pub returns-clause-rest : goal.returns-clause-rest
 returns-clause-rest g c =
     let is = left-at g.C.Chunk.slots c.args.place.chunk c.args.place.skip c.as_slice.result.now c.self.inside.chunks.items _ _ c.as_slice.ensures.value refl refl c.self.view_is in
     IfOk-weaker c.rows_at.result _ _ (λ answer p.
-        sym (left-at g.C.Chunk.slots answer.1.chunk answer.1.skip c.as_slice.result.now c.self.inside.chunks.items _ _ c.as_slice.ensures.value refl refl c.self.view_is)
-        ∙ p ∙ ap (drop c.args.len) is) c.rows_at.ensures.rest
+    sym (left-at g.C.Chunk.slots answer.1.chunk answer.1.skip c.as_slice.result.now c.self.inside.chunks.items _ _ c.as_slice.ensures.value refl refl c.self.view_is)
+    ∙ p ∙ ap (drop c.args.len) is) c.rows_at.ensures.rest
