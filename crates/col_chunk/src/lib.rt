@@ -4,17 +4,20 @@
 mod appending;
 mod array;
 mod chunk;
+mod cursor;
 mod folds;
 mod parts;
 mod reductions;
 mod rows;
 mod setting;
+mod taking;
 mod word_chunk;
 mod words;
 
 pub use array::{ArrayOf, ROW_LIMIT};
 pub use chunk::{Chunk, SetChunk, View};
 pub use col_kernel::{Word, rescale_slot};
+pub use cursor::Place;
 pub use word_chunk::{WordBuilder, WordChunk};
 pub use words::{
     ChunkView, ChunkedArray, IdxCa, Int8Chunked, Int16Chunked, Int32Chunked, Int64Chunked,
