@@ -128,47 +128,67 @@ fn rests_have_the_sign_of_the_divisor(rt: HostRuntime) -> Result<(), Fail> {
     Ok(())
 }
 
+/// Seven and three milliseconds.
+fn seven_and_three(alloc: Global) -> PolarsResult<(Series, Series)> {
+    let seven = column(alloc, &DataType::Duration(MILLIS), &[Some(7)])?;
+    let three = column(alloc, &DataType::Duration(MILLIS), &[Some(3)])?;
+    Ok((seven, three))
+}
+
+/// The refusal of an operator between two lengths of time.
+fn no_operator(op: OpName) -> PolarsResult<Option<i64>> {
+    Err(PolarsError::Types {
+        op,
+        left: Kind::Duration(MILLIS),
+        right: Kind::Duration(MILLIS),
+    })
+}
+
 #[test]
 fn columns_of_one_type_meet(rt: HostRuntime) -> Result<(), Fail> {
     let alloc = rt.alloc();
-    let millis = DataType::Duration(MILLIS);
-    let (seven, three) = (
-        column(alloc, &millis, &[Some(7)])?,
-        column(alloc, &millis, &[Some(3)])?,
+    let (seven, three) = seven_and_three(alloc)?;
+    assert_eq!(rt; first(seven.add_to(alloc, &three)), Ok(Some(10)));
+    assert_eq!(rt; first(seven.subtract(alloc, &three)), Ok(Some(4)));
+    assert_eq!(rt; first(seven.remainder(alloc, &three)), Ok(Some(1)));
+    Ok(())
+}
+
+#[test]
+fn owned_columns_meet(rt: HostRuntime) -> Result<(), Fail> {
+    let alloc = rt.alloc();
+    let (seven, three) = seven_and_three(alloc)?;
+    assert_eq!(rt; first(seven.try_add_owned(alloc, three)), Ok(Some(10)));
+    let (seven, three) = seven_and_three(alloc)?;
+    assert_eq!(rt; first(seven.try_sub_owned(alloc, three)), Ok(Some(4)));
+    let (seven, three) = seven_and_three(alloc)?;
+    assert_eq!(rt;
+        first(seven.try_mul_owned(alloc, three)),
+        no_operator(OpName::Mul)
     );
-    for (answer, wanted) in [
-        (first(seven.add_to(alloc, &three)), 10),
-        (first(seven.subtract(alloc, &three)), 4),
-        (first(seven.remainder(alloc, &three)), 1),
-        (
-            first(
-                seven
-                    .try_clone(alloc)?
-                    .try_add_owned(alloc, three.try_clone(alloc)?),
-            ),
-            10,
-        ),
-        (
-            first(
-                seven
-                    .try_clone(alloc)?
-                    .try_sub_owned(alloc, three.try_clone(alloc)?),
-            ),
-            4,
-        ),
-    ] {
-        assert_eq!(rt; answer, Ok(Some(wanted)));
-    }
-    let (left, right) = (Kind::Duration(MILLIS), Kind::Duration(MILLIS));
-    for (answer, op) in [
-        (first(seven.multiply(alloc, &three)), OpName::Mul),
-        (first(seven.divide(alloc, &three)), OpName::Div),
-        (first(seven.try_mul(alloc, &three)), OpName::Mul),
-        (first(seven.try_div(alloc, &three)), OpName::Div),
-        (first(seven.try_mul_owned(alloc, three)), OpName::Mul),
-    ] {
-        assert_eq!(rt; answer, Err(PolarsError::Types { op, left, right }));
-    }
+    Ok(())
+}
+
+#[test]
+fn lengths_have_no_product(rt: HostRuntime) -> Result<(), Fail> {
+    let alloc = rt.alloc();
+    let (seven, three) = seven_and_three(alloc)?;
+    assert_eq!(rt;
+        first(seven.multiply(alloc, &three)),
+        no_operator(OpName::Mul)
+    );
+    assert_eq!(rt;
+        first(seven.divide(alloc, &three)),
+        no_operator(OpName::Div)
+    );
+    assert_eq!(rt;
+        first(seven.try_mul(alloc, &three)),
+        no_operator(OpName::Mul)
+    );
+    assert_eq!(rt;
+        first(seven.try_div(alloc, &three)),
+        no_operator(OpName::Div)
+    );
     Ok(())
 }
 
@@ -199,19 +219,22 @@ fn columns_of_two_units_are_coerced(rt: HostRuntime) -> Result<(), Fail> {
 fn integers_meet_columns(rt: HostRuntime) -> Result<(), Fail> {
     let alloc = rt.alloc();
     let seven = column(alloc, &DataType::Duration(MILLIS), &[Some(7)])?;
-    for (answer, wanted) in [
-        (first(seven.add_scalar(alloc, -3)), 4),
-        (first(seven.sub_scalar(alloc, 3)), 4),
-        (first(seven.mul_scalar(alloc, -3)), -21),
-        (first(seven.rem_scalar(alloc, -3)), -2),
-        (first(seven.lhs_add(alloc, 3)), 10),
-        (first(seven.lhs_sub(alloc, 3)), -4),
-        (first(seven.lhs_mul(alloc, 3)), 21),
-        (first(seven.lhs_div(alloc, -15)), -3),
-        (first(seven.lhs_rem(alloc, -15)), 6),
-    ] {
-        assert_eq!(rt; answer, Ok(Some(wanted)));
-    }
+    assert_eq!(rt; first(seven.add_scalar(alloc, -3)), Ok(Some(4)));
+    assert_eq!(rt; first(seven.sub_scalar(alloc, 3)), Ok(Some(4)));
+    assert_eq!(rt; first(seven.mul_scalar(alloc, -3)), Ok(Some(-21)));
+    assert_eq!(rt; first(seven.rem_scalar(alloc, -3)), Ok(Some(-2)));
+    Ok(())
+}
+
+#[test]
+fn columns_meet_integers(rt: HostRuntime) -> Result<(), Fail> {
+    let alloc = rt.alloc();
+    let seven = column(alloc, &DataType::Duration(MILLIS), &[Some(7)])?;
+    assert_eq!(rt; first(seven.lhs_add(alloc, 3)), Ok(Some(10)));
+    assert_eq!(rt; first(seven.lhs_sub(alloc, 3)), Ok(Some(-4)));
+    assert_eq!(rt; first(seven.lhs_mul(alloc, 3)), Ok(Some(21)));
+    assert_eq!(rt; first(seven.lhs_div(alloc, -15)), Ok(Some(-3)));
+    assert_eq!(rt; first(seven.lhs_rem(alloc, -15)), Ok(Some(6)));
     Ok(())
 }
 
