@@ -145,8 +145,8 @@ fn a_finer_unit_and_back_at_both_ends(rt: HostRuntime) -> Result<(), Fail> {
 // A million moments in milliseconds, from 0 to 10 over and over.
 fn a_million_rows(alloc: Global) -> Result<Inputs, Fail> {
     let mut slots = Vec::new(alloc);
-    for row in 0..1_000_000 {
-        match slots.push(Some(row % 11)) {
+    for row in 0..1_000_000_u64 {
+        match slots.push(Some(i128::from(row % 11))) {
             Ok(()) => {}
             Err(_) => return Err(Fail::new("no memory")),
         }
