@@ -155,17 +155,27 @@ fn columns_of_one_type_meet(rt: HostRuntime) -> Result<(), Fail> {
 }
 
 #[test]
-fn owned_columns_meet(rt: HostRuntime) -> Result<(), Fail> {
+fn owned_columns_have_a_sum(rt: HostRuntime) -> Result<(), Fail> {
     let alloc = rt.alloc();
     let (seven, three) = seven_and_three(alloc)?;
     assert_eq!(rt; first(seven.try_add_owned(alloc, three)), Ok(Some(10)));
+    Ok(())
+}
+
+#[test]
+fn owned_columns_have_a_difference(rt: HostRuntime) -> Result<(), Fail> {
+    let alloc = rt.alloc();
     let (seven, three) = seven_and_three(alloc)?;
     assert_eq!(rt; first(seven.try_sub_owned(alloc, three)), Ok(Some(4)));
+    Ok(())
+}
+
+#[test]
+fn owned_lengths_have_no_product(rt: HostRuntime) -> Result<(), Fail> {
+    let alloc = rt.alloc();
     let (seven, three) = seven_and_three(alloc)?;
-    assert_eq!(rt;
-        first(seven.try_mul_owned(alloc, three)),
-        no_operator(OpName::Mul)
-    );
+    let product = first(seven.try_mul_owned(alloc, three));
+    assert_eq!(rt; product, no_operator(OpName::Mul));
     Ok(())
 }
 
@@ -178,12 +188,19 @@ fn lengths_have_no_product(rt: HostRuntime) -> Result<(), Fail> {
         no_operator(OpName::Mul)
     );
     assert_eq!(rt;
-        first(seven.divide(alloc, &three)),
-        no_operator(OpName::Div)
-    );
-    assert_eq!(rt;
         first(seven.try_mul(alloc, &three)),
         no_operator(OpName::Mul)
+    );
+    Ok(())
+}
+
+#[test]
+fn lengths_have_no_quotient(rt: HostRuntime) -> Result<(), Fail> {
+    let alloc = rt.alloc();
+    let (seven, three) = seven_and_three(alloc)?;
+    assert_eq!(rt;
+        first(seven.divide(alloc, &three)),
+        no_operator(OpName::Div)
     );
     assert_eq!(rt;
         first(seven.try_div(alloc, &three)),
@@ -233,6 +250,13 @@ fn columns_meet_integers(rt: HostRuntime) -> Result<(), Fail> {
     assert_eq!(rt; first(seven.lhs_add(alloc, 3)), Ok(Some(10)));
     assert_eq!(rt; first(seven.lhs_sub(alloc, 3)), Ok(Some(-4)));
     assert_eq!(rt; first(seven.lhs_mul(alloc, 3)), Ok(Some(21)));
+    Ok(())
+}
+
+#[test]
+fn integers_are_divided_by_columns(rt: HostRuntime) -> Result<(), Fail> {
+    let alloc = rt.alloc();
+    let seven = column(alloc, &DataType::Duration(MILLIS), &[Some(7)])?;
     assert_eq!(rt; first(seven.lhs_div(alloc, -15)), Ok(Some(-3)));
     assert_eq!(rt; first(seven.lhs_rem(alloc, -15)), Ok(Some(6)));
     Ok(())
