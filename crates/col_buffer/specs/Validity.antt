@@ -1,5 +1,7 @@
 -- Slots that are kept as plain values and bits of validity, 64 to a word.
-use Rattle.std.specs.Prelude.{◌≡◌, ◌+◌, ◌*◌, ◌/◌, ◌%◌, ◌≤◌, ◌<◌, ◌==◌, ◌≢◌, ℕ, zero, suc, ℤ, Bool, true, List, [], ◌∷◌, Option, Some, None, slice_index, length, if◌then◌else◌}
+use Rattle.std.specs.Prelude.{◌≡◌, ◌+◌, ◌*◌, ◌/◌, ◌%◌, ◌≤◌, ◌<◌, ◌==◌, ◌≢◌, ℕ, zero, suc, ℤ, Bool}
+use Rattle.std.specs.Prelude.{true, List, [], ◌∷◌, Option, Some, None, slice_index, length}
+use Rattle.std.specs.Prelude.{if◌then◌else◌}
 use Rattle.std.specs.Int.{bit_at}
 use Rattle.col_model.specs.Value.{Value, whole}
 
@@ -25,7 +27,8 @@ slot_if reading valid x = if valid then Some (whole (reading x)) else None
 -- the slots of values whose bits are those from a place on
 abbrev pub masked : {T : Type 0} → (T → ℤ) → Option (List ℕ) → ℕ → List T → List (Option Value)
 masked reading words i [] = []
-masked reading words i (x ∷ xs) = slot_if reading (valid_at words i) x ∷ masked reading words (i + 1) xs
+masked reading words i (x ∷ xs) =
+    slot_if reading (valid_at words i) x ∷ masked reading words (i + 1) xs
 
 -- ---- what writes leave
 
@@ -60,7 +63,8 @@ pub record AddsValid (old new : Option (List ℕ)) (place : ℕ) (valid : Bool) 
   pub others : (j : ℕ) → j < place → valid_at new j ≡ valid_at old j
 
 -- so many places of others, from a start on, are written behind those that count, and those stay
-pub record AddsRange (old new : Option (List ℕ)) (place : ℕ) (from : Option (List ℕ)) (start len : ℕ) : Type 0 where
+pub record AddsRange (old new : Option (List ℕ)) (place : ℕ) (from : Option (List ℕ))
+    (start len : ℕ) : Type 0 where
   pub reach : Reaches new (place + len)
   pub here : (k : ℕ) → k < len → valid_at new (place + k) ≡ valid_at from (start + k)
   pub others : (j : ℕ) → j < place → valid_at new j ≡ valid_at old j

@@ -1,5 +1,7 @@
 -- The slots that a list of chunks has, and slots that are moved.
-use Rattle.std.specs.Prelude.{◌+◌, ◌-◌, ◌∷◌, ◌++◌, [], ℕ, ℤ, pos, negsuc, suc, min, List, Option, Some, None, length, map, take, drop, replicate, sum, nat_lt, if◌then◌else◌}
+use Rattle.std.specs.Prelude.{◌+◌, ◌-◌, ◌∷◌, ◌++◌, [], ℕ, ℤ, pos, negsuc, suc, min, List, Option}
+use Rattle.std.specs.Prelude.{Some, None, length, map, take, drop, replicate, sum, nat_lt}
+use Rattle.std.specs.Prelude.{if◌then◌else◌}
 use Rattle.std.specs.List.{flat_map}
 use Rattle.col_model.specs.Value.{Value, whole}
 use Rattle.col_model.specs.Chunked.{Chunked}
@@ -18,12 +20,14 @@ starts_of slots row [] = row ∷ []
 starts_of slots row (chunk ∷ chunks) = row ∷ starts_of slots (row + length (slots chunk)) chunks
 
 -- the slots from so many rows into a chunk on
-abbrev pub rows_from : {C : Type 0} → (C → List (Option Value)) → ℕ → ℕ → List C → List (Option Value)
+abbrev pub rows_from :
+    {C : Type 0} → (C → List (Option Value)) → ℕ → ℕ → List C → List (Option Value)
 rows_from slots chunk skip chunks = drop skip (joined slots (drop chunk chunks))
 
 -- the slots of a column from so many rows into a chunk on
 abbrev pub rows_left : ℕ → ℕ → Chunked → List (Option Value)
-rows_left chunk skip chunked = drop (sum (take chunk chunked.chunk_lengths) + skip) chunked.column.slots
+rows_left chunk skip chunked =
+    drop (sum (take chunk chunked.chunk_lengths) + skip) chunked.column.slots
 
 -- a row, where it is past the end
 abbrev pub row_past : ℕ → Option ℕ → Option ℕ

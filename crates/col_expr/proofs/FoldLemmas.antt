@@ -1,6 +1,6 @@
 -- Folding changes no column and no refusal: an induction on the tree.
 use Rattle.std.proofs.Common.{◌≡◌, ℕ, Bool, true, false, ◌&&◌, List, [], ◌∷◌, ◌++◌, Option, Some}
-use Rattle.std.proofs.Common.{None, is_some, refl, sym, ap, ◌∙◌, subst, arith}
+use Rattle.std.proofs.Common.{None, refl, sym, ap, ◌∙◌, subst}
 use Rattle.std.specs.Prelude.{if◌then◌else◌}
 use Rattle.std.specs.Option.{option_or}
 use Rattle.std.specs.List.{All}
@@ -18,14 +18,14 @@ use Rattle.col_expr.specs.Tree.{node_count}
 use Rattle.col_expr.specs.Numbers.{Numbers, Over, number_at, below, left_of, right_of, numbers_from}
 use Rattle.col_expr.specs.Built.{is_built_tree}
 use Rattle.col_expr.specs.Meaning.{dtype_of, slot_at}
-use Rattle.col_expr.specs.Refusal.{refusal_at, first_refusal, outcome_by, outcome}
+use Rattle.col_expr.specs.Refusal.{first_refusal}
 use Rattle.col_expr.specs.Plan.{Plan, rule_holds, rules_hold, ends_before, is_plan_valid}
 use Rattle.col_expr.specs.PlanLaws.{IsKeptBy, numbered_nodes, ValidPlansAreKept}
-use Rattle.col_expr.specs.Folded.{unit_step_for, step_of, goes_on, turns_back, Numbered}
+use Rattle.col_expr.specs.Folded.{step_of, goes_on, turns_back, Numbered}
 use Rattle.col_expr.specs.Folded.{cast_operand, under_cast, cast_over, is_type, is_covered}
 use Rattle.col_expr.specs.Folded.{joined_operand, fold_cast, folded_by, plan_if, folded}
 use Rattle.col_expr.specs.FoldLaws.{FoldingChangesNoAnswer}
-use Rattle.col_expr.proofs.FoldFacts.{Facts, facts, cast_facts, same_cast, same_binary, same_right}
+use Rattle.col_expr.proofs.FoldFacts.{Facts, facts, same_cast, same_binary, same_right}
 use Rattle.col_expr.proofs.FoldFacts.{same_left, same_unit_change, same_shift, refused_cast}
 use Rattle.col_expr.proofs.FoldFacts.{refused_binary, refused_right, refused_left}
 use Rattle.col_expr.proofs.FoldFacts.{refused_unit_change, same_column}

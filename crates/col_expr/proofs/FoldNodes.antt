@@ -1,9 +1,8 @@
 -- Nodes over folded operands: their refusals, and two operands.
 use Rattle.std.proofs.Common.{◌≡◌, ℕ, ◌+◌, Bool, true, false, ◌&&◌, List, length, Option, Some}
-use Rattle.std.proofs.Common.{None, Result, Err, IfOk, OnOk, refl, sym, ap, ◌∙◌, subst}
+use Rattle.std.proofs.Common.{None, Result, IfOk, refl, sym, ap, ◌∙◌, subst}
 use Rattle.std.specs.Prelude.{if◌then◌else◌}
 use Rattle.std.specs.Option.{option_or}
-use Rattle.std.proofs.lemmas.Bool.{and_parts}
 use Rattle.col_types.specs.declared.data_type.DataType.{DataType}
 use Rattle.col_types.specs.declared.cast_options.CastOptions.{CastOptions}
 use Rattle.col_types.specs.declared.cast_options.CastOptions.TheVariants.{NonStrict}
@@ -21,13 +20,13 @@ use Rattle.col_expr.specs.declared.waiting.Waiting.{Waiting}
 use Rattle.col_expr.specs.Tree.{Tree, Input, Cast, Binary, ScalarRight, ScalarLeft, InUnit, Shift}
 use Rattle.col_expr.specs.Tree.{node_count}
 use Rattle.col_expr.specs.Node.{over}
-use Rattle.col_expr.specs.Numbers.{Numbers, Over, Join, number_at, below, numbers_from}
+use Rattle.col_expr.specs.Numbers.{Numbers, Join, number_at, below, numbers_from}
 use Rattle.col_expr.specs.Meaning.{dtype_of, step_count}
 use Rattle.col_expr.specs.Refusal.{Unless, GivesBy, refusal_at, first_refusal}
 use Rattle.col_expr.specs.Found.{IsFine, numbered}
 use Rattle.col_expr.specs.Plan.{Plan}
 use Rattle.col_expr.specs.Folded.{Numbered, step_of, goes_on, turns_back, is_type, is_covered}
-use Rattle.col_expr.specs.Folded.{cast_operand, under_cast, cast_over, joined_operand, turned_cast}
+use Rattle.col_expr.specs.Folded.{cast_operand, under_cast, cast_over, joined_operand}
 use Rattle.col_expr.specs.Folded.{fold_cast, folded_by}
 use Rattle.col_expr.specs.Waiting.{waiting_dtype, IsLevel, Leads, IsUnitCast, fold_over, IsWaiting}
 use Rattle.col_expr.specs.Waiting.{IsReady, IsFolding}

@@ -1,11 +1,10 @@
 -- Casts from unit to unit: what they give, two that go on, and two that turn back.
-use Rattle.std.proofs.Common.{◌≡◌, ◌≢◌, ℕ, ◌+◌, ◌<◌, ◌≤◌, Bool, true, false, ◌&&◌, List, [], ◌∷◌}
+use Rattle.std.proofs.Common.{◌≡◌, ℕ, ◌+◌, ◌<◌, Bool, true, false, ◌&&◌, List, [], ◌∷◌}
 use Rattle.std.proofs.Common.{map, Option, Some, None, is_some, is_none, ◌⊎◌, inl, inr, refl, sym}
-use Rattle.std.proofs.Common.{ap, ◌∙◌, subst, arith, nat_lt, nat_le, ◌/◌, lt-ltb}
+use Rattle.std.proofs.Common.{ap, ◌∙◌, subst, arith, nat_lt, ◌/◌, lt-ltb}
 use Rattle.std.specs.Prelude.{if◌then◌else◌}
-use Rattle.std.specs.Option.{option_map}
 use Rattle.std.specs.List.{range_with_len}
-use Rattle.std.proofs.lemmas.Bool.{and_parts, and_from}
+use Rattle.std.proofs.lemmas.Bool.{and_from}
 use Rattle.std.proofs.lemmas.Bool.Decides.{nat_tests}
 use Rattle.std.proofs.lemmas.Simd.{map-map}
 use Rattle.col_types.specs.TimeUnit.{nanos_per_tick}
@@ -16,24 +15,19 @@ use Rattle.col_types.specs.declared.cast_options.CastOptions.TheVariants.{Strict
 use Rattle.col_types.specs.declared.cast_options.CastOptions.TheVariants.{Overflowing}
 use Rattle.col_types.specs.declared.time_unit.TimeUnit.{TimeUnit}
 use Rattle.col_types.specs.declared.is_sorted.IsSorted.{IsSorted}
-use Rattle.col_types.proofs.TypeLemmas.{same_type-Decides}
 use Rattle.col_model.specs.Value.{Value}
-use Rattle.col_model.specs.Formula.{Formula, X, slot_by}
+use Rattle.col_model.specs.Formula.{Formula, X}
 use Rattle.col_model.specs.CastTable.{CastRule, cast_rule, rising, resolved_target}
 use Rattle.col_model.specs.ColumnCalls.{cast_slot, first_lost, keeps_order, kept_flag}
-use Rattle.col_model.specs.Broadcast.{column_slots}
 use Rattle.col_model.specs.UnitChange.{unit_change, datetime_in_unit, duration_in_unit}
 use Rattle.col_model.specs.UnitLaws.{slot_cast, is_no_coarser, is_no_finer}
 use Rattle.col_model.specs.declared.ticks.UnitChange.{UnitChange}
 use Rattle.col_model.specs.declared.ticks.UnitChange.TheVariants.{Finer, Same, Coarser}
-use Rattle.col_model.proofs.ChainLemmas.{moments_back, lengths_back, finer_moments_one}
+use Rattle.col_model.proofs.ChainLemmas.{finer_moments_one}
 use Rattle.col_model.proofs.ChainLemmas.{finer_lengths_one, coarser_moments_one}
 use Rattle.col_model.proofs.ChainLemmas.{coarser_lengths_one}
-use Rattle.col_expr.specs.declared.error.EvalError.{EvalError}
-use Rattle.col_expr.specs.Meaning.{cast_dtype, cast_rule_for, cast_flag_for}
 use Rattle.col_expr.specs.Refusal.{cast_refusal_at}
-use Rattle.col_expr.specs.Folded.{unit_step, unit_step_by, unit_step_for, goes_on, turns_back}
-use Rattle.col_expr.specs.Folded.{is_type}
+use Rattle.col_expr.specs.Folded.{unit_step, unit_step_by, unit_step_for, goes_on}
 use Rattle.col_expr.proofs.FoldFacts.{Facts, cast_facts, slots_by_facts, row_count_by}
 
 -- ---- the ways of two units

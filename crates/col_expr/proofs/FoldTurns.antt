@@ -1,12 +1,11 @@
 -- A cast to a finer unit and back, where no slot is lost; and what a covered cast says.
-use Rattle.std.proofs.Common.{◌≡◌, ℕ, ◌+◌, ◌<◌, ◌≤◌, Bool, true, false, ◌&&◌, List, [], ◌∷◌, ◌++◌}
-use Rattle.std.proofs.Common.{map, length, get_or, Option, Some, None, is_some, is_none, refl, sym}
+use Rattle.std.proofs.Common.{◌≡◌, ℕ, ◌+◌, ◌≤◌, true, ◌&&◌, List, [], ◌∷◌, ◌++◌}
+use Rattle.std.proofs.Common.{Option, Some, None, is_some, is_none, refl, sym}
 use Rattle.std.proofs.Common.{ap, ◌∙◌, subst, arith, length-append}
-use Rattle.std.specs.Prelude.{if◌then◌else◌}
 use Rattle.std.specs.List.{All, range_with_len}
 use Rattle.std.proofs.lemmas.Bool.{and_parts}
 use Rattle.std.proofs.lemmas.List.Elements.{All-tail}
-use Rattle.std.proofs.lemmas.List.{get_or_append_left, get_or_push}
+use Rattle.std.proofs.lemmas.List.{get_or_append_left}
 use Rattle.col_types.specs.TimeUnit.{nanos_per_tick}
 use Rattle.col_types.specs.DataType.{same_type, shape_of}
 use Rattle.col_types.specs.declared.data_type.DataType.{DataType, Datetime, Duration}
@@ -15,26 +14,24 @@ use Rattle.col_types.specs.declared.cast_options.CastOptions.TheVariants.{NonStr
 use Rattle.col_types.specs.declared.time_unit.TimeUnit.{TimeUnit}
 use Rattle.col_types.specs.declared.time_unit.TimeUnit.TheVariants.{Nanoseconds, Microseconds}
 use Rattle.col_types.specs.declared.time_unit.TimeUnit.TheVariants.{Milliseconds}
-use Rattle.col_types.specs.declared.is_sorted.IsSorted.{IsSorted}
 use Rattle.col_types.proofs.TypeLemmas.{same_type-Decides}
 use Rattle.col_model.specs.Value.{Value, whole}
 use Rattle.col_model.specs.Arithmetic.{Interval}
 use Rattle.col_model.specs.Column.{Column, values_of}
 use Rattle.col_model.specs.Formula.{spanned}
-use Rattle.col_model.specs.CastTable.{cast_rule, resolved_target}
-use Rattle.col_model.specs.ColumnCalls.{first_lost, kept_flag}
+use Rattle.col_model.specs.CastTable.{cast_rule}
+use Rattle.col_model.specs.ColumnCalls.{kept_flag}
 use Rattle.col_model.specs.UnitChange.{unit_change}
 use Rattle.col_model.specs.UnitLaws.{slot_cast}
-use Rattle.col_model.specs.declared.ticks.UnitChange.{UnitChange}
 use Rattle.col_model.specs.declared.ticks.UnitChange.TheVariants.{Finer, Coarser}
 use Rattle.col_model.proofs.ChainLemmas.{moments_back, lengths_back}
 use Rattle.col_expr.specs.Tree.{Tree, Cast}
 use Rattle.col_expr.specs.Numbers.{Numbers, number_at, below}
 use Rattle.col_expr.specs.Meaning.{dtype_of, slot_at, cast_rule_for}
-use Rattle.col_expr.specs.Plan.{Plan, interval_in, cast_formula, formula_for, image_by, image_of}
+use Rattle.col_expr.specs.Plan.{Plan, interval_in, cast_formula, formula_for, image_by}
 use Rattle.col_expr.specs.Plan.{bound_by, is_image_inside, fits_type, is_kept_within, keeps_rule}
 use Rattle.col_expr.specs.Plan.{rule_holds}
-use Rattle.col_expr.specs.PlanLaws.{IsKeptBy, IsKeptIn}
+use Rattle.col_expr.specs.PlanLaws.{IsKeptBy}
 use Rattle.col_expr.specs.Folded.{unit_step, is_type, is_covered}
 use Rattle.col_expr.proofs.FoldFacts.{Facts, facts, cast_facts, slots_by_facts, row_count_by}
 use Rattle.col_expr.proofs.FoldSteps.{finer_way, no_coarser, some_is, null_cast, StaysValid}

@@ -1,12 +1,11 @@
 -- Columns over which casts wait: done, joined and taken away.
 use Rattle.std.proofs.Common.{◌≡◌, ℕ, ◌+◌, Bool, true, false, ◌&&◌, List, [], length, Option, Some}
-use Rattle.std.proofs.Common.{None, Result, Ok, Err, OnOk, IfOk, ◌⊎◌, inl, inr, refl, sym, ap, ◌∙◌}
+use Rattle.std.proofs.Common.{None, Result, Ok, Err, IfOk, inl, inr, refl, sym, ap, ◌∙◌}
 use Rattle.std.proofs.Common.{subst}
 use Rattle.std.specs.Prelude.{if◌then◌else◌, unwrap_or}
 use Rattle.std.specs.List.{All}
 use Rattle.col_types.specs.DataType.{same_type}
 use Rattle.col_types.specs.declared.data_type.DataType.{DataType, Boolean}
-use Rattle.col_types.specs.declared.cast_options.CastOptions.{CastOptions}
 use Rattle.col_types.specs.declared.cast_options.CastOptions.TheVariants.{NonStrict}
 use Rattle.col_model.specs.Column.{Column, IsValidColumn}
 use Rattle.col_model.specs.Chunked.{Chunked, column_of}

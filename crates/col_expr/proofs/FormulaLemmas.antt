@@ -1,33 +1,32 @@
 -- The slots of nodes as formulas on their operands' slots, and that they are values of their types.
-use Rattle.std.proofs.Common.{◌≡◌, ℕ, ℤ, zero, suc, List, [], ◌∷◌, Bool, true, false, ◌&&◌, Option, Some, None, if◌then◌else◌, refl, sym, ap, ◌∙◌, subst, arith}
-use Rattle.std.specs.Prelude.{slice_get, slice_index_or, not, ◌||◌, Result, Ok, Err}
+use Rattle.std.proofs.Common.{◌≡◌, ℕ, ℤ, zero, suc, List, [], ◌∷◌, Bool, true, false, Option, Some, None, if◌then◌else◌, refl, sym, ap, ◌∙◌, subst}
+use Rattle.std.specs.Prelude.{slice_get, slice_index_or, not, ◌||◌}
 use Rattle.std.specs.List.{All, list_all}
 use Rattle.std.specs.Option.{option_map, option_and_then, ok_or}
 use Rattle.std.specs.Result.{result_ok}
-use Rattle.std.proofs.lemmas.Bool.{and_from, and_parts, false≢true}
+use Rattle.std.proofs.lemmas.Bool.{and_parts, false≢true}
 use Rattle.std.proofs.lemmas.List.Elements.{All-head, All-tail}
 use Rattle.col_types.specs.DataType.{is_built, is_column_type, holds_integers, is_bad_target, is_expression_target}
 use Rattle.col_types.specs.declared.data_type.DataType.{DataType, Date, Datetime, Duration, Time}
 use Rattle.col_types.specs.declared.cast_options.CastOptions.{CastOptions}
-use Rattle.col_types.specs.declared.time_unit.TimeUnit.{TimeUnit}
 use Rattle.col_types.specs.declared.error.PolarsError.{PolarsError}
 use Rattle.col_types.specs.declared.operator.BinOp.{BinOp}
 use Rattle.col_types.specs.declared.operator.ScalarOp.{ScalarOp}
-use Rattle.col_model.specs.Arithmetic.{Interval, is_within}
-use Rattle.col_model.specs.Value.{Value, Flat, Nested, Whole, Bytes, whole, on_slot, on_slots, integer_slot}
-use Rattle.col_model.specs.Column.{Column, IsValidColumn, is_built_type, values_of, is_value_in, is_slot_of}
+use Rattle.col_model.specs.Arithmetic.{Interval}
+use Rattle.col_model.specs.Value.{Value, Flat, Nested, Whole, Bytes, whole, on_slot, integer_slot}
+use Rattle.col_model.specs.Column.{Column, IsValidColumn, values_of, is_value_in, is_slot_of}
 use Rattle.col_model.specs.Formula.{Formula, value_of, slot_by, slots_by}
 use Rattle.col_model.specs.Broadcast.{operand_row, row_before}
 use Rattle.col_model.specs.CastTable.{CastRule, cast_rule, resolved_target}
 use Rattle.col_model.specs.ColumnCalls.{cast_slot}
-use Rattle.col_model.specs.OperatorTable.{OperatorRule, operator_rule, listed_rule}
+use Rattle.col_model.specs.OperatorTable.{OperatorRule, listed_rule}
 use Rattle.col_model.specs.OperationNames.{name_of_op, unsupported}
 use Rattle.col_model.specs.ScalarTable.{scalar_right_rule, scalar_left_rule, is_scalar_of, unit_change_rule}
-use Rattle.col_model.specs.RuleLaws.{is_value_of, GivesValues, RuleGivesValues}
+use Rattle.col_model.specs.RuleLaws.{GivesValues, RuleGivesValues}
 use Rattle.col_model.proofs.RuleLemmas.{by_built, casts_give_values, operators_give_values, right_scalars_give_values, left_scalars_give_values, unit_changes_give_values}
 use Rattle.col_expr.specs.Tree.{Tree, Input, Cast, Binary, ScalarRight, ScalarLeft, InUnit, Shift}
 use Rattle.col_expr.specs.Built.{is_built_cast, is_built_tree}
-use Rattle.col_expr.specs.Meaning.{dtype_of, cast_dtype, rule_dtype, rule_slot, rule_slots, scalar_slot, is_scalar_for, input_slot, slot_at, row_count, cast_rule_for, operator_rule_for, scalar_right_rule_for, scalar_left_rule_for, unit_change_rule_for}
+use Rattle.col_expr.specs.Meaning.{dtype_of, rule_dtype, rule_slot, rule_slots, scalar_slot, is_scalar_for, input_slot, slot_at, row_count, cast_rule_for, operator_rule_for, scalar_right_rule_for, scalar_left_rule_for, unit_change_rule_for}
 use Rattle.col_expr.specs.Plan.{formula_for, cast_formula, rule_formula, scalar_formula}
 use Rattle.col_expr.specs.PlanLaws.{operands_at}
 

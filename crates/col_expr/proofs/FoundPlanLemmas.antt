@@ -1,24 +1,23 @@
 -- The plan that columns give is valid, and the code finds it.
-use Rattle.std.proofs.Common.{◌≡◌, ℕ, ℤ, zero, suc, ◌+◌, ◌≤◌, ◌<◌, ◌≤ℤ◌, List, [], ◌∷◌, ◌++◌, Bool, true, false, ◌&&◌, Option, Some, None, if◌then◌else◌, refl, sym, ap, ◌∙◌, subst, arith, append_assoc, Greater, zero-add}
+use Rattle.std.proofs.Common.{◌≡◌, ℕ, ℤ, ◌+◌, ◌≤◌, ◌<◌, ◌≤ℤ◌, List, [], ◌∷◌, ◌++◌, Bool, true, false, ◌&&◌, Option, Some, None, if◌then◌else◌, refl, sym, ap, ◌∙◌, subst, arith, append_assoc, Greater, zero-add}
 use Rattle.std.specs.Prelude.{slice_get, nat_lt, nat_le, int_le, IfSome, OnSome}
 use Rattle.std.specs.List.{list_all, All}
 use Rattle.std.specs.Int.{int_min, int_max}
-use Rattle.std.specs.Map.{lookup}
-use Rattle.std.specs.BTreeMap.{insert_entry, is_at}
+use Rattle.std.specs.BTreeMap.{is_at}
 use Rattle.std.specs.Ordering.{nat_cmp, match_ordering}
 use Rattle.std.proofs.lemmas.Bool.Decides.{nat_tests}
-use Rattle.std.proofs.lemmas.Bool.{and_parts, and_from, false≢true}
+use Rattle.std.proofs.lemmas.Bool.{and_parts, and_from}
 use Rattle.std.proofs.lemmas.Int.{ints, clamps}
 use Rattle.col_types.specs.declared.data_type.DataType.{DataType}
-use Rattle.col_model.specs.Arithmetic.{Interval, is_within, is_inside}
+use Rattle.col_model.specs.Arithmetic.{Interval, is_inside}
 use Rattle.col_model.specs.Value.{Value, Leaf, Flat, Nested, Whole, Bytes, whole}
-use Rattle.col_model.specs.Column.{Column, IsValidColumn, values_of, is_value_in, is_slot_of}
-use Rattle.col_model.proofs.WithinLemmas.{IsWithin, is_within-true, within_from, le_true, true_le}
+use Rattle.col_model.specs.Column.{Column, IsValidColumn, values_of, is_slot_of}
+use Rattle.col_model.proofs.WithinLemmas.{is_within-true, le_true}
 use Rattle.col_expr.specs.Tree.{Tree, Input, Cast, Binary, ScalarRight, ScalarLeft, InUnit, Shift, node_count}
 use Rattle.col_expr.specs.Numbers.{Numbers, number_at, below, left_of, right_of, numbers_from}
 use Rattle.col_expr.specs.Meaning.{dtype_of}
-use Rattle.col_expr.specs.Plan.{Plan, interval_in, covering, bound_by, bound_of, formula_for, image_by, image_of, fits_type, is_slot_within, is_column_within, is_image_inside, is_kept_within, keeps_rule, rule_holds, rules_hold, ends_before, is_plan_valid}
-use Rattle.col_expr.specs.FoundPlan.{widened, widened_by, spanned_by, is_fit, fitting, found_interval, entry_for, found_from, found_plan}
+use Rattle.col_expr.specs.Plan.{Plan, interval_in, covering, bound_by, bound_of, formula_for, image_by, image_of, fits_type, is_slot_within, is_column_within, is_image_inside, is_kept_within, keeps_rule, rule_holds, rules_hold, ends_before}
+use Rattle.col_expr.specs.FoundPlan.{widened_by, spanned_by, is_fit, fitting, found_interval, entry_for, found_from, found_plan}
 use Rattle.col_types.specs.declared.operator.BinOp.{BinOp}
 use Rattle.col_expr.specs.declared.node.UnaryOp.{UnaryOp}
 use Rattle.col_expr.specs.declared.node.UnaryOp.TheVariants as operations

@@ -1,15 +1,15 @@
 -- A valid plan keeps its promise at each node.
-use Rattle.std.proofs.Common.{◌≡◌, ℕ, ℤ, zero, suc, List, [], ◌∷◌, ◌++◌, Bool, true, false, ◌&&◌, Option, Some, None, if◌then◌else◌, refl, sym, ap, ◌∙◌, subst}
+use Rattle.std.proofs.Common.{◌≡◌, ℕ, ℤ, zero, suc, List, [], ◌∷◌, ◌++◌, true, false, ◌&&◌, Option, Some, None, refl, sym, ap, ◌∙◌, subst}
 use Rattle.std.specs.Prelude.{slice_get, slice_index_or}
 use Rattle.std.specs.List.{All, list_all}
 use Rattle.std.specs.Option.{option_map, option_and_then}
-use Rattle.std.proofs.lemmas.Bool.{and_from, and_parts, false≢true}
+use Rattle.std.proofs.lemmas.Bool.{and_parts, false≢true}
 use Rattle.std.proofs.lemmas.List.Elements.{All-cons, All-nil, All-append}
 use Rattle.col_types.specs.declared.data_type.DataType.{DataType}
 use Rattle.col_model.specs.Arithmetic.{Interval, is_within, is_inside}
-use Rattle.col_model.specs.Value.{Value, Flat, Nested, Whole, Bytes, whole, on_slots}
+use Rattle.col_model.specs.Value.{Value, Flat, Nested, Whole, Bytes, whole}
 use Rattle.col_model.specs.Column.{Column, IsValidColumn, values_of, is_value_in}
-use Rattle.col_model.specs.Formula.{Formula, value_of, exact_value_of, on_intervals, interval_of}
+use Rattle.col_model.specs.Formula.{Formula, interval_of}
 use Rattle.col_model.specs.Broadcast.{operand_row, row_before}
 use Rattle.col_model.proofs.IntervalLemmas.{intervals_hold}
 use Rattle.col_model.proofs.WithinLemmas.{is_within-true, within_from, inside_from}
@@ -17,9 +17,9 @@ use Rattle.col_expr.specs.Tree.{Tree, Input, Cast, Binary, ScalarRight, ScalarLe
 use Rattle.col_expr.specs.Numbers.{Numbers, number_at, below, left_of, right_of, numbers_from}
 use Rattle.col_expr.specs.Built.{is_built_cast, is_built_tree}
 use Rattle.col_expr.specs.Meaning.{dtype_of, input_slot, slot_at, row_count}
-use Rattle.col_expr.specs.Plan.{Plan, interval_in, bound_by, bound_of, formula_for, image_by, image_of, fits_type, is_slot_within, is_column_within, is_image_inside, is_kept_within, keeps_rule, rule_holds, rules_hold, ends_before, is_plan_valid}
-use Rattle.col_expr.specs.PlanLaws.{numbered_nodes, operands_at, exact_slot, IsKeptIn, IsKeptBy, ValidPlansAreKept}
-use Rattle.col_expr.proofs.FormulaLemmas.{formula_slot, HasFormula, slot-formula, formula_there, value_whole, SlotsFit, slots_fit}
+use Rattle.col_expr.specs.Plan.{Plan, interval_in, bound_by, bound_of, formula_for, image_by, fits_type, is_slot_within, is_column_within, is_image_inside, is_kept_within, keeps_rule, rule_holds, rules_hold, ends_before}
+use Rattle.col_expr.specs.PlanLaws.{numbered_nodes, operands_at, exact_slot, IsKeptBy, ValidPlansAreKept}
+use Rattle.col_expr.proofs.FormulaLemmas.{formula_slot, HasFormula, slot-formula, formula_there, value_whole, slots_fit}
 
 -- each valid slot of a node lies in its bound
 abbrev IsBounded : List Column → Plan → Numbers → Tree → Type 0

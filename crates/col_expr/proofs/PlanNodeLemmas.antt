@@ -1,6 +1,6 @@
 -- What is found of a node, from what is found of its operands; and how plans keep their order.
 use Rattle.std.proofs.Common.{◌≡◌, ℕ, ℤ, zero, suc, ◌+◌, ◌≤◌, ◌<◌, List, [], ◌∷◌, Bool, true, false, ◌&&◌, Option, Some, None, map, refl, sym, ap, ◌∙◌, subst, arith, Ordering, Less, Equal, Greater}
-use Rattle.std.specs.Prelude.{slice_get, nat_lt, IfSome, Ok, Err, Result}
+use Rattle.std.specs.Prelude.{slice_get, nat_lt, IfSome}
 use Rattle.std.specs.List.{list_all, All}
 use Rattle.std.specs.Option.{option_map, ok_or}
 use Rattle.std.specs.Result.{result_ok}
@@ -11,7 +11,7 @@ use Rattle.std.proofs.lemmas.List.Elements.{All-head, All-tail, All-cons}
 use Rattle.std.proofs.lemmas.Map.Entries.{All-lookup}
 use Rattle.col_model.specs.Value.{integer_slot}
 use Rattle.std.proofs.lemmas.Bool.Decides.{nat_tests}
-use Rattle.std.proofs.lemmas.Bool.{and_parts, and_from, false≢true}
+use Rattle.std.proofs.lemmas.Bool.{and_from}
 use Rattle.col_types.specs.declared.data_type.DataType.{DataType}
 use Rattle.col_types.specs.declared.operator.BinOp.{BinOp}
 use Rattle.col_types.specs.declared.error.PolarsError.{PolarsError}
@@ -19,17 +19,17 @@ use Rattle.col_model.specs.Arithmetic.{Interval}
 use Rattle.col_model.specs.Column.{Column}
 use Rattle.col_model.specs.Chunked.{Chunked, column_of, columns_of}
 use Rattle.col_model.specs.IntervalRoom.{IsOrdered}
-use Rattle.col_model.specs.OperatorTable.{OperatorRule, operator_rule, listed_rule}
+use Rattle.col_model.specs.OperatorTable.{OperatorRule}
 use Rattle.col_model.specs.RuleIntervals.{typed_interval}
 use Rattle.col_expr.specs.declared.node.UnaryOp.{UnaryOp}
 use Rattle.col_expr.specs.declared.node.UnaryOp.TheVariants as operations
 use Rattle.col_expr.specs.declared.part.Part.{Part}
 use Rattle.col_expr.specs.Tree.{Tree, Input, Cast, Binary, ScalarRight, ScalarLeft, InUnit, Shift, node_count}
-use Rattle.col_expr.specs.Numbers.{Numbers, One, number_at, below, left_of, right_of, numbers_from}
+use Rattle.col_expr.specs.Numbers.{Numbers, One, number_at, below, numbers_from}
 use Rattle.col_expr.specs.Node.{over}
 use Rattle.col_expr.specs.Meaning.{dtype_of, rule_dtype}
-use Rattle.col_expr.specs.Plan.{Plan, interval_in, covering, is_slot_within, bound_by, bound_of, image_by, image_of, rule_formula, keeps_rule, rule_holds, rules_hold, ends_before, fits_type, is_image_inside}
-use Rattle.col_expr.specs.PlanNode.{operation_dtype, operation_image, pair_dtype, pair_image, keeps_image, keeps_column, part_dtype, part_bound, image_dtype, image_interval, IsSettled, IsSettledBy, IsPart, IsChecked, IsInputPart, IsInput, IsCoverOrdered}
+use Rattle.col_expr.specs.Plan.{Plan, interval_in, covering, is_slot_within, bound_by, bound_of, image_by, image_of, rule_formula, keeps_rule, rule_holds, rules_hold, ends_before}
+use Rattle.col_expr.specs.PlanNode.{operation_dtype, operation_image, pair_dtype, pair_image, keeps_image, keeps_column, part_dtype, part_bound, image_dtype, image_interval, IsSettledBy, IsPart, IsChecked, IsInput, IsCoverOrdered}
 
 -- ---- plans
 

@@ -1,6 +1,6 @@
 -- The tree that is evaluated in an expression's place: casts from unit to unit are joined, and a
 -- cast to a finer unit and back is left out where a valid plan covers it.
-use Rattle.std.specs.Prelude.{◌≡◌, ℕ, Bool, true, false, ◌&&◌, List, [], is_some, Option, Some}
+use Rattle.std.specs.Prelude.{ℕ, Bool, true, false, ◌&&◌, List, [], is_some, Option, Some}
 use Rattle.std.specs.Prelude.{None, if◌then◌else◌}
 use Rattle.col_types.specs.DataType.{is_expression_target, same_type}
 use Rattle.col_types.specs.declared.data_type.DataType.{DataType, Datetime, Duration}
@@ -8,9 +8,9 @@ use Rattle.col_types.specs.declared.cast_options.CastOptions.{CastOptions}
 use Rattle.col_types.specs.declared.cast_options.CastOptions.TheVariants.{Strict, NonStrict}
 use Rattle.col_types.specs.declared.cast_options.CastOptions.TheVariants.{Overflowing}
 use Rattle.col_model.specs.declared.ticks.UnitChange.{UnitChange}
-use Rattle.col_model.specs.declared.ticks.UnitChange.TheVariants.{Finer, Same, Coarser}
+use Rattle.col_model.specs.declared.ticks.UnitChange.TheVariants.{Finer, Coarser}
 use Rattle.col_model.specs.UnitChange.{unit_change}
-use Rattle.col_model.specs.Column.{Column, IsValidColumn}
+use Rattle.col_model.specs.Column.{Column}
 use Rattle.col_expr.specs.Tree.{Tree, Input, Cast, Binary, ScalarRight, ScalarLeft, InUnit, Shift}
 use Rattle.col_expr.specs.Numbers.{Numbers, Over, Join, number_at, below, left_of, right_of}
 use Rattle.col_expr.specs.Numbers.{numbers_from}

@@ -1,6 +1,6 @@
 -- The plan that the columns themselves give: from the slots of the inputs upwards.
-use Rattle.std.specs.Prelude.{ℕ, Bool, ◌&&◌, int_le, List, [], ◌∷◌, ◌++◌, Option, Some, None, slice_get, if◌then◌else◌}
-use Rattle.std.specs.Option.{option_and_then}
+use Rattle.std.specs.Prelude.{ℕ, Bool, ◌&&◌, int_le, List, [], ◌∷◌, ◌++◌, Option, Some, None}
+use Rattle.std.specs.Prelude.{slice_get, if◌then◌else◌}
 use Rattle.std.specs.Int.{int_min, int_max}
 use Rattle.col_types.specs.declared.data_type.DataType.{DataType}
 use Rattle.col_model.specs.Arithmetic.{Interval}

@@ -1,5 +1,6 @@
 -- Plans: intervals for nodes, and the rule that each covered node has to keep.
-use Rattle.std.specs.Prelude.{ℕ, ℤ, Bool, true, false, ◌&&◌, nat_le, nat_lt, List, Option, Some, None, slice_get, if◌then◌else◌}
+use Rattle.std.specs.Prelude.{ℕ, ℤ, Bool, true, false, ◌&&◌, nat_le, nat_lt, List, Option, Some}
+use Rattle.std.specs.Prelude.{None, slice_get, if◌then◌else◌}
 use Rattle.std.specs.List.{list_all}
 use Rattle.std.specs.Option.{option_map, option_and_then}
 use Rattle.std.specs.Ordering.{nat_cmp}
@@ -12,9 +13,12 @@ use Rattle.col_model.specs.Column.{Column, physical_word, values_of, is_value_in
 use Rattle.col_model.specs.Formula.{Formula, on_intervals, interval_of}
 use Rattle.col_model.specs.CastTable.{CastRule}
 use Rattle.col_model.specs.OperatorTable.{OperatorRule}
-use Rattle.col_expr.specs.Tree.{Tree, Input, Cast, Binary, ScalarRight, ScalarLeft, InUnit, Shift, node_count}
+use Rattle.col_expr.specs.Tree.{Tree, Input, Cast, Binary, ScalarRight, ScalarLeft, InUnit, Shift}
+use Rattle.col_expr.specs.Tree.{node_count}
 use Rattle.col_expr.specs.Numbers.{Numbers, number_at, below, left_of, right_of, numbers_from}
-use Rattle.col_expr.specs.Meaning.{dtype_of, cast_rule_for, operator_rule_for, scalar_right_rule_for, scalar_left_rule_for, unit_change_rule_for, is_scalar_for}
+use Rattle.col_expr.specs.Meaning.{dtype_of, cast_rule_for, operator_rule_for}
+use Rattle.col_expr.specs.Meaning.{scalar_right_rule_for, scalar_left_rule_for}
+use Rattle.col_expr.specs.Meaning.{unit_change_rule_for, is_scalar_for}
 
 -- ---- plans
 
@@ -53,7 +57,8 @@ formula_for inputs (Cast operand target options) =
 formula_for inputs (Binary op left right) =
     rule_formula (operator_rule_for op (dtype_of inputs left) (dtype_of inputs right))
 formula_for inputs (ScalarRight operand op k) =
-    scalar_formula (dtype_of inputs operand) k (scalar_right_rule_for (dtype_of inputs operand) op k)
+    scalar_formula (dtype_of inputs operand) k
+    (scalar_right_rule_for (dtype_of inputs operand) op k)
 formula_for inputs (ScalarLeft k op operand) =
     scalar_formula (dtype_of inputs operand) k (scalar_left_rule_for k op (dtype_of inputs operand))
 formula_for inputs (InUnit operand unit) =

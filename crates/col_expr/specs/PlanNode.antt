@@ -1,11 +1,10 @@
 -- What is found of a part of an expression while its plan is checked.
-use Rattle.std.specs.Prelude.{◌≡◌, ℕ, ℤ, List, Bool, true, false, ◌&&◌, Option, Some, None, IfSome}
+use Rattle.std.specs.Prelude.{◌≡◌, ℕ, List, Bool, true, false, ◌&&◌, Option, Some, None, IfSome}
 use Rattle.std.specs.Option.{option_map}
 use Rattle.col_types.specs.declared.data_type.DataType.{DataType}
 use Rattle.col_types.specs.declared.operator.BinOp.{BinOp}
 use Rattle.col_model.specs.Arithmetic.{Interval}
 use Rattle.col_model.specs.Column.{Column, is_built_type}
-use Rattle.col_model.specs.Formula.{Formula}
 use Rattle.col_model.specs.IntervalRoom.{IsNear, IsOrdered}
 use Rattle.col_expr.specs.declared.node.UnaryOp.{UnaryOp}
 use Rattle.col_expr.specs.declared.node.UnaryOp.TheVariants as operations
@@ -13,9 +12,13 @@ use Rattle.col_expr.specs.declared.part.Part.{Part}
 use Rattle.col_expr.specs.declared.part.Part.TheVariants as parts
 use Rattle.col_expr.specs.Tree.{Tree}
 use Rattle.col_expr.specs.Numbers.{Numbers}
-use Rattle.col_expr.specs.Meaning.{dtype_of, cast_dtype, rule_dtype, cast_rule_for, operator_rule_for, scalar_right_rule_for, scalar_left_rule_for, unit_change_rule_for}
+use Rattle.col_expr.specs.Meaning.{dtype_of, cast_dtype, rule_dtype, cast_rule_for}
+use Rattle.col_expr.specs.Meaning.{operator_rule_for, scalar_right_rule_for, scalar_left_rule_for}
+use Rattle.col_expr.specs.Meaning.{unit_change_rule_for}
 use Rattle.col_expr.specs.FoundPlan.{found_interval, fitting}
-use Rattle.col_expr.specs.Plan.{Plan, cast_formula, rule_formula, scalar_formula, bound_by, bound_of, image_by, fits_type, is_image_inside, is_column_within, rules_hold}
+use Rattle.col_expr.specs.Plan.{Plan, cast_formula, rule_formula, scalar_formula, bound_by}
+use Rattle.col_expr.specs.Plan.{bound_of, image_by, fits_type, is_image_inside, is_column_within}
+use Rattle.col_expr.specs.Plan.{rules_hold}
 
 -- ---- a node from its operands' types and bounds
 
@@ -99,7 +102,8 @@ image_interval (Some typed) = typed.1
 
 -- columns of the type of a node exist, if it has one
 abbrev pub IsImageBuilt : Option (DataType × Option Interval) → Type 0
-IsImageBuilt image = IfSome image (λ (typed : DataType × Option Interval). is_built_type typed.0 ≡ true)
+IsImageBuilt image =
+    IfSome image (λ (typed : DataType × Option Interval). is_built_type typed.0 ≡ true)
 
 -- what the rule of a node answers, by its image and the interval of the plan
 pub record IsSettled (planned : Option Interval) (image : Option (DataType × Option Interval))
@@ -110,7 +114,8 @@ pub record IsSettled (planned : Option Interval) (image : Option (DataType × Op
   pub known : IsKnown part
 
 -- the same, or that the rule fails
-abbrev pub IsSettledBy : Option Interval → Option (DataType × Option Interval) → Option Part → Type 0
+abbrev pub IsSettledBy :
+    Option Interval → Option (DataType × Option Interval) → Option Part → Type 0
 IsSettledBy planned image None =
     keeps_image planned (image_dtype image) (image_interval image) ≡ false
 IsSettledBy planned image (Some part) = IsSettled planned image part

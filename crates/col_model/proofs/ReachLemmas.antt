@@ -1,11 +1,11 @@
 -- Where the valid values of a formula lie, though it may lose some of them or wrap them.
-use Rattle.std.proofs.Common.{◌≡◌, ℕ, ℤ, zero, suc, pos, negsuc, ◌+ℤ◌, ◌-ℤ◌, ◌*ℤ◌, ◌≤ℤ◌, ◌<ℤ◌, Bool, true, false, Option, Some, None, if◌then◌else◌, refl, sym, ap, ◌∙◌, subst, arith}
+use Rattle.std.proofs.Common.{◌≡◌, ℤ, zero, suc, pos, negsuc, ◌+ℤ◌, ◌-ℤ◌, ◌*ℤ◌, ◌≤ℤ◌, Bool, true, false, Option, Some, None, if◌then◌else◌, refl, sym, ap, ◌∙◌, subst, arith}
 use Rattle.std.specs.Prelude.{◌≢◌}
 use Rattle.std.specs.Option.{option_and_then, option_map}
 use Rattle.std.specs.Int.{int_min, int_max}
 use Rattle.std.proofs.lemmas.Int.{ints, clamps}
 use Rattle.col_model.specs.Arithmetic.{Interval, is_within, word_values, fitting_value, wrapped_value, floor_by, trunc_by, floor_mod, unless_zero}
-use Rattle.col_model.specs.Formula.{Formula, X, Y, Constant, Sum, Difference, Product, FloorBy, TruncBy, FloorDiv, TruncDiv, FloorMod, Fit, Wrap, NonZero, on_both, divided, truth_of, value_of, on_intervals, at_ends, between_ends}
+use Rattle.col_model.specs.Formula.{Formula, X, Y, Constant, Sum, Difference, Product, FloorBy, TruncBy, FloorDiv, TruncDiv, FloorMod, Fit, Wrap, NonZero, on_both, value_of, on_intervals, at_ends, between_ends}
 use Rattle.col_model.specs.IntervalLaws.{IsShortOf}
 use Rattle.col_model.specs.IntervalRoom.{only}
 use Rattle.col_model.proofs.WithinLemmas.{IsWithin, within_from}

@@ -1,5 +1,5 @@
 -- Each rule of the tables gives values of its answer's type.
-use Rattle.std.proofs.Common.{◌≡◌, ℕ, ℤ, pos, ◌+ℤ◌, ◌-ℤ◌, ◌≤ℤ◌, List, Bool, true, false, ◌&&◌, Option, Some, None, if◌then◌else◌, refl, sym, ap, ◌∙◌, subst, arith}
+use Rattle.std.proofs.Common.{◌≡◌, ℕ, ℤ, pos, ◌+ℤ◌, ◌-ℤ◌, List, Bool, true, false, Option, Some, None, if◌then◌else◌, refl, sym, ap, ◌∙◌, subst, arith}
 use Rattle.std.specs.Prelude.{unwrap_or}
 use Rattle.std.specs.Int.{int_min, int_max}
 use Rattle.std.proofs.lemmas.Int.{ints, clamps}
@@ -17,11 +17,11 @@ use Rattle.col_types.specs.declared.operator.ScalarOp.TheVariants as scalar_ops
 use Rattle.col_model.specs.Arithmetic.{Interval, is_within, is_inside}
 use Rattle.col_model.specs.Value.{whole}
 use Rattle.col_model.specs.Column.{values_of, is_value_in}
-use Rattle.col_model.specs.Formula.{Formula, X, value_of, spanned}
+use Rattle.col_model.specs.Formula.{Formula, X, spanned}
 use Rattle.col_model.specs.IntervalRoom.{only}
 use Rattle.col_model.specs.CastTable.{CastRule, cast_rule, rising}
 use Rattle.col_model.specs.UnitChange.{datetime_in_unit}
-use Rattle.col_model.specs.OperatorTable.{OperatorRule, listed_rule, sum_rule, difference_rule, rest_rule, giving, wrapping}
+use Rattle.col_model.specs.OperatorTable.{OperatorRule, listed_rule, sum_rule, difference_rule, rest_rule}
 use Rattle.col_model.specs.ScalarTable.{scalar_right_rule, scalar_left_rule, is_scalar_of, unit_change_rule}
 use Rattle.col_model.specs.RuleLaws.{is_value_of, GivesValues, CastsGiveValues, RuleGivesValues, OperatorsGiveValues, RightScalarsGiveValues, LeftScalarsGiveValues, UnitChangesGiveValues}
 use Rattle.col_model.proofs.WithinLemmas.{IsWithin, is_within-true, within_from, inside_from}

@@ -4,7 +4,7 @@ use Rattle.std.proofs.lemmas.Int.{ints}
 use Rattle.col_model.specs.Arithmetic.{Interval, is_within}
 use Rattle.col_model.specs.Formula.{X, Y, interval_of, rest_interval}
 use Rattle.col_model.specs.IntervalRoom.{only}
-use Rattle.col_model.specs.UnitChange.{datetime_by, duration_by, wrapped_datetime_by, wrapped_duration_by, in_finer_unit}
+use Rattle.col_model.specs.UnitChange.{datetime_by, duration_by, wrapped_datetime_by, wrapped_duration_by}
 use Rattle.col_model.specs.declared.ticks.UnitChange.{UnitChange}
 use Rattle.col_model.specs.declared.ticks.UnitChange.TheVariants.{Finer, Same, Coarser}
 use Rattle.std.specs.Prelude.{int_le, int_lt}

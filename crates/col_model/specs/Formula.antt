@@ -1,10 +1,11 @@
 -- The formulas of the tables as data, and what each gives: value, exact value, interval.
-use Rattle.std.specs.Prelude.{ℕ, zero, suc, ℤ, pos, negsuc, ◌+ℤ◌, ◌-ℤ◌, ◌*ℤ◌, ◌&&◌, Option, Some}
+use Rattle.std.specs.Prelude.{ℕ, zero, suc, ℤ, pos, negsuc, ◌+ℤ◌, ◌-ℤ◌, ◌*ℤ◌, Option, Some}
 use Rattle.std.specs.Prelude.{None, if◌then◌else◌, int_lt}
 use Rattle.std.specs.Option.{option_and_then, option_map}
 use Rattle.std.specs.Int.{int_min, int_max}
 use Rattle.col_model.specs.Value.{Value, on_slot, on_slots}
-use Rattle.col_model.specs.Arithmetic.{Interval, is_within, is_inside, WordType, word_values, fitting_value}
+use Rattle.col_model.specs.Arithmetic.{Interval, is_within, is_inside, WordType, word_values}
+use Rattle.col_model.specs.Arithmetic.{fitting_value}
 use Rattle.col_model.specs.Arithmetic.{wrapped_value, floor_by, trunc_by, floor_div, trunc_div}
 use Rattle.col_model.specs.Arithmetic.{floor_mod, unless_zero}
 

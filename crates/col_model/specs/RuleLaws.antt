@@ -1,5 +1,5 @@
 -- Each rule of the tables gives values of its answer's type.
-use Rattle.std.specs.Prelude.{◌≡◌, ℤ, Bool, true, Option, Some}
+use Rattle.std.specs.Prelude.{◌≡◌, ℤ, Bool, true, Some}
 use Rattle.col_types.specs.DataType.{is_built}
 use Rattle.col_types.specs.declared.data_type.DataType.{DataType}
 use Rattle.col_types.specs.declared.time_unit.TimeUnit.{TimeUnit}
@@ -11,7 +11,8 @@ use Rattle.col_model.specs.Column.{values_of, is_value_in}
 use Rattle.col_model.specs.Formula.{Formula, value_of}
 use Rattle.col_model.specs.CastTable.{CastRule, cast_rule}
 use Rattle.col_model.specs.OperatorTable.{OperatorRule, listed_rule}
-use Rattle.col_model.specs.ScalarTable.{scalar_right_rule, scalar_left_rule, is_scalar_of, unit_change_rule}
+use Rattle.col_model.specs.ScalarTable.{scalar_right_rule, scalar_left_rule, is_scalar_of}
+use Rattle.col_model.specs.ScalarTable.{unit_change_rule}
 
 -- whether an integer is a value of the type
 abbrev pub is_value_of : DataType → ℤ → Bool

@@ -1,8 +1,10 @@
 -- Columns of words: their type, the slots that fit it, and what reductions make of them.
-use Rattle.std.specs.Prelude.{ℤ, pos, ◌+ℤ◌, ◌*ℤ◌, Bool, true, List, fold, Option, Some, None, int_lt, if◌then◌else◌}
+use Rattle.std.specs.Prelude.{ℤ, pos, ◌+ℤ◌, ◌*ℤ◌, Bool, true, List, fold, Option, Some, None}
+use Rattle.std.specs.Prelude.{int_lt, if◌then◌else◌}
 use Rattle.std.specs.List.{filter_map}
 use Rattle.std.specs.Int.{w8, w16, w32, w64, w128, int_bit_and, int_bit_or, int_bit_xor}
-use Rattle.col_types.specs.declared.data_type.DataType.{DataType, Int8, Int16, Int32, Int64, Int128, UInt8, UInt16, UInt32, UInt64}
+use Rattle.col_types.specs.declared.data_type.DataType.{DataType, Int8, Int16, Int32, Int64}
+use Rattle.col_types.specs.declared.data_type.DataType.{Int128, UInt8, UInt16, UInt32, UInt64}
 use Rattle.col_model.specs.Arithmetic.{WordType, Signed, Unsigned, word_values, wrapped_value}
 use Rattle.col_model.specs.Column.{is_value_in}
 use Rattle.col_model.specs.Value.{Value, Flat, Whole}
@@ -38,11 +40,13 @@ integers_of slots = filter_map integer_in slots
 
 -- their sum, wrapped at each addition
 abbrev pub sum_of : WordType → List (Option Value) → ℤ
-sum_of word slots = fold (λ x y. wrapped_value word (x +ℤ y)) (wrapped_value word (pos 0)) (integers_of slots)
+sum_of word slots =
+    fold (λ x y. wrapped_value word (x +ℤ y)) (wrapped_value word (pos 0)) (integers_of slots)
 
 -- their product, wrapped at each multiplication
 abbrev pub product_of : WordType → List (Option Value) → ℤ
-product_of word slots = fold (λ x y. wrapped_value word (x *ℤ y)) (wrapped_value word (pos 1)) (integers_of slots)
+product_of word slots =
+    fold (λ x y. wrapped_value word (x *ℤ y)) (wrapped_value word (pos 1)) (integers_of slots)
 
 -- the lesser and the greater of two integers
 abbrev pub lesser : ℤ → ℤ → ℤ

@@ -1,5 +1,5 @@
 -- What the words' command reads.
-use Rattle.std.proofs.Common.{◌≡◌, ◌∙◌, ℕ, Bool, List, Option, Some, sym, ap}
+use Rattle.std.proofs.Common.{◌≡◌, ◌∙◌, ℕ, Bool, List, Some, ap}
 use Rattle.std.specs.Option.{option_map_or}
 use Rattle.std.specs.Prelude.{false}
 use Rattle.col_prog.specs.declared.words.Command.{Command}

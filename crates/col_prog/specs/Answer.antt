@@ -1,5 +1,6 @@
 -- What the program answers to its words and to the bytes of its script.
-use Rattle.std.specs.Prelude.{◌≡◌, ◌≤◌, ℕ, Bool, true, false, List, [], Option, Some, None, option_and_then, Result, Ok, Err, length, codes}
+use Rattle.std.specs.Prelude.{◌≡◌, ◌≤◌, ℕ, Bool, true, false, List, [], Option, Some, None}
+use Rattle.std.specs.Prelude.{option_and_then, Result, Ok, Err, length, codes}
 use Rattle.std.specs.Option.{IsSomeAnd, option_map_or}
 use Rattle.col_model.specs.Chunked.{columns_of}
 use Rattle.col_model.specs.Column.{Column}
@@ -13,9 +14,11 @@ use Rattle.col_text.specs.Script.{script_of}
 use Rattle.col_text.specs.Answer.{column_text, fault_text, bad_line_text}
 use Rattle.col_text.specs.Plans.{plan_text}
 use Rattle.col_prog.specs.declared.words.Command.{Command}
-use Rattle.col_prog.specs.declared.words.Command.TheVariants.{Eval, Fold, Autofold, Check, Plan, Help, Version}
+use Rattle.col_prog.specs.declared.words.Command.TheVariants.{Eval, Fold, Autofold, Check, Plan}
+use Rattle.col_prog.specs.declared.words.Command.TheVariants.{Help, Version}
 use Rattle.col_prog.specs.declared.status.Status.{Status}
-use Rattle.col_prog.specs.declared.status.Status.TheVariants.{Done, Refused, BadScript, BadWords, ReadFault, TooLong, NoMemory}
+use Rattle.col_prog.specs.declared.status.Status.TheVariants.{Done, Refused, BadScript, BadWords}
+use Rattle.col_prog.specs.declared.status.Status.TheVariants.{ReadFault, TooLong, NoMemory}
 use Rattle.col_prog.specs.Words.{command_of}
 use Rattle.col_prog.specs.HelpText.{help_text, version_text}
 

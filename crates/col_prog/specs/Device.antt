@@ -1,5 +1,6 @@
 -- What the calls of a source and a sink say of room and faults.
-use Rattle.std.specs.Prelude.{◌≡◌, ℕ, ◌+◌, ◌-◌, ◌^◌, ◌≤◌, min, Option, Some, None, Result, Ok, Err, OnErr}
+use Rattle.std.specs.Prelude.{◌≡◌, ℕ, ◌+◌, ◌-◌, ◌^◌, ◌≤◌, min, Option, Some, None, Result, Ok, Err}
+use Rattle.std.specs.Prelude.{OnErr}
 
 -- a count raised by one, which stays at its last value
 abbrev pub raised : ℕ → ℕ

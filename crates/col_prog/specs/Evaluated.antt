@@ -8,7 +8,8 @@ use Rattle.col_expr.specs.Tree.{Tree}
 use Rattle.col_text.specs.declared.script.Script.{Script}
 use Rattle.col_text.specs.Script.{script_of}
 use Rattle.col_prog.specs.declared.words.Command.{Command}
-use Rattle.col_prog.specs.declared.words.Command.TheVariants.{Eval, Fold, Autofold, Check, Plan, Help, Version}
+use Rattle.col_prog.specs.declared.words.Command.TheVariants.{Eval, Fold, Autofold, Check, Plan}
+use Rattle.col_prog.specs.declared.words.Command.TheVariants.{Help, Version}
 use Rattle.col_prog.specs.declared.value.Folding.{Folding}
 use Rattle.col_prog.specs.declared.value.Folding.TheVariants.{Without, Given, Found}
 use Rattle.col_prog.specs.Words.{command_of}

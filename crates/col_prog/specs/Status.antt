@@ -1,7 +1,9 @@
 -- The exit code and the message of a status.
 use Rattle.std.specs.Prelude.{ℕ, List, codes}
 use Rattle.col_prog.specs.declared.status.Status.{Status}
-use Rattle.col_prog.specs.declared.status.Status.TheVariants.{Done, Refused, BadScript, BadWords, ReadFault, WriteFault, TooLong, NoMemory}
+use Rattle.col_prog.specs.declared.status.Status.TheVariants.{Done, Refused, BadScript, BadWords}
+use Rattle.col_prog.specs.declared.status.Status.TheVariants.{ReadFault, WriteFault, TooLong}
+use Rattle.col_prog.specs.declared.status.Status.TheVariants.{NoMemory}
 
 -- the exit code
 abbrev pub code_of : Status → ℕ

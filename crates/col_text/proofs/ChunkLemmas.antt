@@ -1,12 +1,12 @@
 -- The slots of a line's chunks, one after the other, are the slots of its tokens without the bars.
-use Rattle.std.proofs.Common.{◌≡◌, ◌∙◌, ℕ, ℤ, Bool, true, false, List, [], ◌∷◌, ◌++◌, filter, Option, Some, None, refl, sym, ap, append_assoc}
+use Rattle.std.proofs.Common.{◌≡◌, ◌∙◌, ℕ, ℤ, Bool, true, false, List, [], ◌∷◌, ◌++◌, filter, Option, Some, None, refl, sym, ap}
 use Rattle.std.specs.Prelude.{option_map, option_and_then, if◌then◌else◌}
-use Rattle.std.specs.List.{flat_map, onto_first, slice_split}
-use Rattle.col_types.specs.declared.data_type.DataType.{DataType, Date, Datetime, Duration, Time}
+use Rattle.std.specs.List.{onto_first, slice_split}
+use Rattle.col_types.specs.declared.data_type.DataType.{DataType}
 use Rattle.col_model.specs.Column.{is_built_type}
 use Rattle.col_series.proofs.TypeLemmas.{by_built_type}
 use Rattle.col_text.specs.Parts.{with_first, all_read}
-use Rattle.col_text.specs.Slots.{ends_chunk, is_filled, chunks_in, chunks_of, slots_in, slots_by, slot_named, integer_slot_of}
+use Rattle.col_text.specs.Slots.{ends_chunk, is_filled, chunks_of, slots_in, slots_by, slot_named, integer_slot_of}
 
 -- the slots of pieces of tokens
 abbrev piece_slots : (List ℕ → Option (Option ℤ)) → List (List (List ℕ)) → Option (List (Option ℤ))

@@ -1,15 +1,13 @@
 -- An integer at the front of a line is its first token.
-use Rattle.std.proofs.Common.{◌≡◌, ◌<◌, ◌≤◌, ◌-◌, ◌+◌, ◌∙◌, ℕ, ℤ, Bool, true, false, List, [], ◌∷◌, length, take, drop, Some, None, refl, sym, ap, arith, zero, suc, nat_eq, length-drop}
-use Rattle.std.specs.Char.{digit_value}
+use Rattle.std.proofs.Common.{◌≡◌, ◌<◌, ◌≤◌, ◌-◌, ◌∙◌, ℕ, ℤ, Bool, true, false, List, [], ◌∷◌, length, take, drop, Some, refl, sym, ap, arith, zero, suc, nat_eq, length-drop}
 use Rattle.std.specs.Int.{IsInRange}
 use Rattle.std.specs.Str.Parse.{AllDigits, digits_value, starts_with_minus}
 use Rattle.std.proofs.lemmas.Str.Parse.{digit_from_value}
-use Rattle.std.proofs.lemmas.Bool.{false≢true}
 use Rattle.std.proofs.lemmas.Bool.Decides.{nat_tests}
 use Rattle.std.proofs.lemmas.List.{length-take}
 use Rattle.col_token.specs.Tokens.{is_blank, words_in, without_blanks}
 use Rattle.col_token.proofs.WordLemmas.{word_end, word_end-more, words_in-headed, words_in-without_blanks, without_blanks-head, without_blanks-le}
-use Rattle.col_text.specs.Numbers.{behind_sign, natural_of, tick_fit, tick_of, with_sign}
+use Rattle.col_text.specs.Numbers.{behind_sign, tick_fit, tick_of, with_sign}
 use Rattle.col_text.specs.Slots.{IsFrontTick, ends_token}
 use Rattle.col_text.proofs.TickLemmas.{some_natural, tick_of-some}
 

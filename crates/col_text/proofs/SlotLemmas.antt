@@ -1,5 +1,5 @@
 -- The tokens of slots, one after the other.
-use Rattle.std.proofs.Common.{◌≡◌, ◌≤◌, ◌-◌, Err, arith, pos, negsuc, ◌<◌, ◌+◌, ◌^◌, ℕ, ℤ, Bool, true, false, List, [], ◌∷◌, ◌++◌, length, take, Option, Some, None, refl, sym, ap, ◌∙◌, append_assoc, zero, suc}
+use Rattle.std.proofs.Common.{◌≡◌, ◌≤◌, ◌-◌, Err, arith, pos, negsuc, ◌+◌, ◌^◌, ℕ, ℤ, Bool, true, false, List, [], ◌∷◌, ◌++◌, length, take, Option, Some, None, refl, sym, ap, ◌∙◌, append_assoc, zero, suc}
 use Rattle.std.specs.Prelude.{option_map, option_and_then, is_some, nat_lt, if◌then◌else◌}
 use Rattle.std.specs.List.{list_all, position_from}
 use Rattle.std.specs.Result.{result_ok}
@@ -14,7 +14,7 @@ use Rattle.col_model.specs.Column.{is_built_type, values_of}
 use Rattle.col_series.proofs.TypeLemmas.{by_built_type}
 use Rattle.col_model.specs.Chunked.{Chunked}
 use Rattle.col_model.specs.ColumnCalls.{chunked_from, first_unfit, is_unfit}
-use Rattle.col_series.specs.Slots.{is_fit, ticks_column}
+use Rattle.col_series.specs.Slots.{is_fit}
 use Rattle.col_series.proofs.ColumnLemmas.{unrefused_fit}
 use Rattle.col_text.specs.Slots.{column_with, ends_chunk, integer_slot_of, slots_by, slots_after_by, is_slot_within, fitting_slot, slot_in, slots_in_type, short_column, interval_of, IsFrontTick, with_front}
 use Rattle.col_text.specs.Parts.{with_first}

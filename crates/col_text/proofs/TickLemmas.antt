@@ -1,17 +1,15 @@
 -- A few digits behind a sign are the integer of the grammar.
-use Rattle.std.proofs.Common.{◌≡◌, pow-add, ◌⊎◌, inl, inr, ◌<◌, ◌≤◌, ◌-◌, ◌^◌, ◌+◌, ◌*◌, ◌∙◌, Option, ℕ, ℤ, pos, negsuc, neg_ℤ, Bool, true, false, List, [], ◌∷◌, length, take, get_or, Some, None, refl, sym, ap, arith, zero, suc}
-use Rattle.std.specs.Prelude.{option_map, option_and_then, nat_lt, nat_le}
+use Rattle.std.proofs.Common.{◌≡◌, pow-add, ◌<◌, ◌≤◌, ◌-◌, ◌^◌, ◌+◌, ◌*◌, ◌∙◌, Option, ℕ, pos, negsuc, neg_ℤ, Bool, true, false, List, length, Some, None, refl, sym, ap, arith, zero, suc}
+use Rattle.std.specs.Prelude.{option_and_then, nat_lt, nat_le}
 use Rattle.std.proofs.Math.Nat.{pow-le-pow_right}
-use Rattle.std.specs.Int.{w64, w128, IsInRange}
-use Rattle.std.specs.Int.RustNames.{FitsSigned}
-use Rattle.std.specs.Option.{SomeIff}
+use Rattle.std.specs.Int.{w128}
 use Rattle.std.specs.Str.{all_ascii_digits}
-use Rattle.std.specs.Str.Parse.{AllDigits, digits_value, starts_with_minus, without_leading_plus}
-use Rattle.std.proofs.lemmas.Str.Parse.{IsNumeralModel, numerals_by_value, tells_all_ascii_digits, digit_at}
-use Rattle.std.proofs.lemmas.Bool.{false≢true, ltb-true, lt-ltb, leb-true, le-leb}
+use Rattle.std.specs.Str.Parse.{AllDigits, digits_value, starts_with_minus}
+use Rattle.std.proofs.lemmas.Str.Parse.{IsNumeralModel, numerals_by_value, tells_all_ascii_digits}
+use Rattle.std.proofs.lemmas.Bool.{false≢true, lt-ltb, le-leb}
 use Rattle.std.proofs.lemmas.Int.Digits.{digits_value-lt}
 use Rattle.col_model.specs.Arithmetic.{Signed, word_values, fitting_value}
-use Rattle.col_text.specs.Numbers.{natural_of, integer_of, signed_of, tick_fit, tick_of, behind_sign, with_sign}
+use Rattle.col_text.specs.Numbers.{natural_of, tick_fit, tick_of, behind_sign, with_sign}
 
 own : IsNumeralModel (λ ds. all_ascii_digits ds ≡ true) (digits_value 10)
 own = numerals_by_value _ tells_all_ascii_digits

@@ -1,5 +1,5 @@
 -- The line of the expression.
-use Rattle.std.specs.Prelude.{ℕ, List, [], ◌∷◌, Option, Some, None, option_and_then, if◌then◌else◌}
+use Rattle.std.specs.Prelude.{ℕ, List, Option, Some, None, option_and_then, if◌then◌else◌}
 use Rattle.col_expr.specs.Tree.{Tree, Symbol, is_within_limits}
 use Rattle.col_expr.specs.Postfix.{stack_with, tree_of}
 use Rattle.col_text.specs.Parts.{all_read}

@@ -1,5 +1,7 @@
 -- Numbers and integers in decimal digits.
-use Rattle.std.specs.Prelude.{ℕ, ◌^◌, Bool, ◌&&◌, ◌||◌, List, get_or, ℤ, pos, negsuc, neg_ℤ, Option, Some, None, option_and_then, option_map, nat_lt, nat_eq, length, drop, if◌then◌else◌}
+use Rattle.std.specs.Prelude.{ℕ, ◌^◌, Bool, ◌&&◌, ◌||◌, List, get_or, ℤ, pos, negsuc, neg_ℤ}
+use Rattle.std.specs.Prelude.{Option, Some, None, option_and_then, option_map, nat_lt, nat_eq}
+use Rattle.std.specs.Prelude.{length, drop, if◌then◌else◌}
 use Rattle.std.specs.Int.{w64, w128}
 use Rattle.std.specs.Str.{all_ascii_digits}
 use Rattle.std.specs.Str.Parse.{digits_value, starts_with_minus, without_leading_plus}

@@ -1,5 +1,6 @@
 -- The line of a plan, and the lines of a whole plan.
-use Rattle.std.specs.Prelude.{ℕ, zero, suc, ℤ, ◌++◌, List, [], ◌∷◌, Option, Some, None, option_and_then, option_map, int_le, if◌then◌else◌, codes}
+use Rattle.std.specs.Prelude.{ℕ, zero, suc, ℤ, ◌++◌, List, [], ◌∷◌, Option, Some, None}
+use Rattle.std.specs.Prelude.{option_and_then, option_map, int_le, if◌then◌else◌, codes}
 use Rattle.std.specs.Option.{option_map_or}
 use Rattle.std.specs.Fmt.{decimal, signed_decimal}
 use Rattle.col_model.specs.Arithmetic.{Interval}

@@ -1,5 +1,7 @@
 -- The line of a column.
-use Rattle.std.specs.Prelude.{◌≡◌, ◌<◌, ℕ, ◌^◌, Bool, ◌&&◌, List, [], ◌∷◌, ◌++◌, filter, ℤ, pos, true, false, Option, Some, None, option_and_then, option_map, nat_lt, nat_le, length, if◌then◌else◌, codes}
+use Rattle.std.specs.Prelude.{◌≡◌, ◌<◌, ℕ, ◌^◌, Bool, ◌&&◌, List, [], ◌∷◌, ◌++◌, filter, ℤ, pos}
+use Rattle.std.specs.Prelude.{true, false, Option, Some, None, option_and_then, option_map, nat_lt}
+use Rattle.std.specs.Prelude.{nat_le, length, if◌then◌else◌, codes}
 use Rattle.std.specs.Int.{w32, w64}
 use Rattle.std.specs.Char.{is_ascii_graphic}
 use Rattle.std.specs.List.{list_all, flat_map, slice_split}

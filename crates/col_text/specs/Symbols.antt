@@ -1,5 +1,6 @@
 -- The nodes that tokens spell.
-use Rattle.std.specs.Prelude.{ℕ, ◌+◌, ℤ, List, [], ◌∷◌, take, drop, nat_eq, find, Option, option_and_then, option_map, codes}
+use Rattle.std.specs.Prelude.{ℕ, ◌+◌, ℤ, List, [], ◌∷◌, take, drop, nat_eq, find, Option}
+use Rattle.std.specs.Prelude.{option_and_then, option_map, codes}
 use Rattle.std.specs.List.{position}
 use Rattle.std.specs.Option.{option_or}
 use Rattle.std.specs.Int.{w64}
@@ -11,9 +12,11 @@ use Rattle.col_types.specs.declared.operator.BinOp.TheVariants as ops
 use Rattle.col_types.specs.declared.operator.ScalarOp.{ScalarOp}
 use Rattle.col_types.specs.declared.operator.ScalarOp.TheVariants as scalar_ops
 use Rattle.col_types.specs.declared.cast_options.CastOptions.{CastOptions}
-use Rattle.col_types.specs.declared.cast_options.CastOptions.TheVariants.{Strict, NonStrict, Overflowing}
+use Rattle.col_types.specs.declared.cast_options.CastOptions.TheVariants.{Strict, NonStrict}
+use Rattle.col_types.specs.declared.cast_options.CastOptions.TheVariants.{Overflowing}
 use Rattle.col_model.specs.Arithmetic.{Signed, word_values, fitting_value}
-use Rattle.col_expr.specs.Tree.{Symbol, TakeInput, CastTo, Apply, ApplyRight, ApplyLeft, ToUnit, ShiftBy}
+use Rattle.col_expr.specs.Tree.{Symbol, TakeInput, CastTo, Apply, ApplyRight, ApplyLeft, ToUnit}
+use Rattle.col_expr.specs.Tree.{ShiftBy}
 use Rattle.col_text.specs.Numbers.{number_of, integer_of}
 use Rattle.col_text.specs.Parts.{after_prefix}
 use Rattle.col_text.specs.Types.{target_named}

@@ -1,5 +1,6 @@
 -- The texts of types.
-use Rattle.std.specs.Prelude.{ℕ, List, [], ◌∷◌, ◌++◌, map, Option, Some, None, option_and_then, option_map, if◌then◌else◌, codes, find}
+use Rattle.std.specs.Prelude.{ℕ, List, [], ◌∷◌, ◌++◌, map, Option, Some, None, option_and_then}
+use Rattle.std.specs.Prelude.{option_map, if◌then◌else◌, codes, find}
 use Rattle.std.specs.Char.{is_ascii_graphic}
 use Rattle.std.specs.List.{list_all}
 use Rattle.std.specs.Option.{option_or}
@@ -9,7 +10,8 @@ use Rattle.col_types.specs.TimeUnit.{all_units, unit_name}
 use Rattle.col_types.specs.Zones.{opt_zone}
 use Rattle.col_types.specs.DataType.{is_expression_type}
 use Rattle.col_types.specs.declared.time_unit.TimeUnit.{TimeUnit}
-use Rattle.col_types.specs.declared.data_type.DataType.{DataType, String, Binary, Date, Datetime, Duration, Time}
+use Rattle.col_types.specs.declared.data_type.DataType.{DataType, String, Binary, Date, Datetime}
+use Rattle.col_types.specs.declared.data_type.DataType.{Duration, Time}
 use Rattle.col_text.specs.Parts.{after_prefix, before_suffix, first_read}
 
 -- a zone behind its unit

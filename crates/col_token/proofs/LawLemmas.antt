@@ -5,7 +5,7 @@ use Rattle.std.specs.List.{flat_map, slice_split}
 use Rattle.std.specs.Str.Lines.{strip_carriage_return}
 use Rattle.col_token.specs.Lines.{lines_of}
 use Rattle.col_token.specs.Tokens.{is_blank, is_token, tokens_of}
-use Rattle.col_token.specs.Places.{PlacedToken, placed_token, placed_pieces, placed_words, placed_lines, placed_tokens}
+use Rattle.col_token.specs.Places.{PlacedToken, placed_token, placed_pieces, placed_words, placed_lines}
 use Rattle.col_token.specs.Laws.{text_of, HasTokensOfLines}
 
 texts_of-append : (tokens more : List PlacedToken)

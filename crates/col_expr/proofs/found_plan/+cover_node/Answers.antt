@@ -1,10 +1,9 @@
-use Rattle.std.proofs.Common.{ap, ◌∙◌, Some}
+use Rattle.std.proofs.Common.{ap, ◌∙◌}
 use Rattle.std.specs.Option.{option_copied, option_map}
 use Rattle.col_model.specs.Chunked.{column_of, columns_of}
-use Rattle.col_expr.specs.Tree.{Input}
 use Rattle.col_expr.specs.Node.{node_tree}
 use Rattle.col_expr.specs.PlanNode.{image_dtype, image_interval}
-use Rattle.col_expr.specs.FoundPlan.{fitting, entry_for}
+use Rattle.col_expr.specs.FoundPlan.{fitting}
 use Rattle.col_expr.proofs.PlanNodeLemmas.{column_at}
 use Rattle.col_expr.proofs.FoundPlanLemmas.{input_found, input_plan, unary_found, unary_plan, plan_ends, binary_found, binary_plan, on_some, if_some}
 use Rattle.col_expr.proofs.found_plan.+cover_node.Goals as goal

@@ -1,4 +1,3 @@
-use Rattle.std.specs.Prelude.{Some}
 use Rattle.col_model.specs.OperationNames.{name_of_op, unsupported}
 use Rattle.col_model.specs.OperatorTable.{listed_rule}
 use Rattle.col_expr.proofs.PlanNodeLemmas.{pair_typed, pair_imaged}

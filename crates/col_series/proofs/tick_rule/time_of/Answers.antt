@@ -1,7 +1,6 @@
 use Rattle.std.proofs.Common.{◌≡◌, ◌∙◌, ◌*ℤ◌, pos, ap, Some, FitsSigned}
 use Rattle.std.specs.Int.{w64, cast_signed, cast_unsigned}
 use Rattle.std.proofs.lemmas.Int.{to_z-of_z}
-use Rattle.col_model.specs.Arithmetic.{floor_mod}
 use Rattle.col_series.proofs.RuleLemmas.{time-fits, time-read}
 use Rattle.col_series.proofs.tick_rule.time_of.Goals as goal
 

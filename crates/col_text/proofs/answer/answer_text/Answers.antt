@@ -1,4 +1,3 @@
-use Rattle.std.proofs.Common.{◌≡◌}
 use Rattle.col_text.proofs.AnswerLemmas.{parts_text, rows_of-ticks}
 use Rattle.col_text.proofs.answer.answer_text.Goals as goal
 

@@ -1,4 +1,4 @@
-use Rattle.std.proofs.Common.{◌≡◌, ◌++◌, ◌∷◌, [], take, drop, length}
+use Rattle.std.proofs.Common.{◌≡◌, ◌++◌, ◌∷◌, [], take, drop}
 use Rattle.std.specs.List.{flat_map}
 use Rattle.col_text.specs.Answer.{line_of, tick_text}
 use Rattle.col_text.proofs.answer.push_rows.Given as goal

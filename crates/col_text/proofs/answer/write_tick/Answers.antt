@@ -1,5 +1,4 @@
-use Rattle.std.proofs.Common.{◌≡◌, ◌≤◌, ◌-◌, ◌+◌, [], ◌++◌, ◌∷◌, ◌∙◌, sym, ap, length, drop, arith, rules, to_z-of_z}
-use Rattle.std.specs.Fmt.{decimal, signed_decimal}
+use Rattle.std.proofs.Common.{◌≡◌, ◌-◌, ◌+◌, [], ◌++◌, ◌∷◌, ◌∙◌, ap, arith, to_z-of_z}
 use Rattle.std.proofs.lemmas.Fmt.{length-decimal-le}
 use Rattle.std.proofs.lemmas.List.{drop-set, drop-set-lt}
 use Rattle.col_text.proofs.AnswerLemmas.{behind_digits, text_of-natural, text_of-negative}

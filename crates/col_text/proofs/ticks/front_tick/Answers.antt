@@ -1,6 +1,5 @@
-use Rattle.std.proofs.Common.{◌≡◌, ◌∙◌, ◌<◌, sym, ap, rules, arith, FitsSigned, w64, to_z-of_z}
+use Rattle.std.proofs.Common.{◌∙◌, sym, ap, rules, arith, FitsSigned, w64, to_z-of_z}
 use Rattle.std.specs.Str.Parse.{starts_with_minus}
-use Rattle.std.proofs.lemmas.Bool.Decides.{nat_tests}
 use Rattle.col_text.specs.Numbers.{behind_sign}
 use Rattle.col_text.proofs.FrontLemmas.{front_tick}
 use Rattle.col_text.proofs.ticks.front_tick.Goals as goal
