@@ -3,6 +3,7 @@ use Rattle.std.specs.Prelude.{ℕ, List, [], ◌∷◌, Option, Some, None, code
 use Rattle.std.specs.Str.{bytes_eq}
 use Rattle.col_prog.specs.declared.words.Command.{Command}
 use Rattle.col_prog.specs.declared.words.Command.TheVariants.{Eval, Fold, Autofold, Check, Plan}
+use Rattle.col_prog.specs.declared.words.Command.TheVariants.{Help, Version}
 
 -- the command of one word
 abbrev pub command_named : List ℕ → Option Command
