@@ -5,3 +5,4 @@ pub mod FoldLaws
 pub mod TakeLaws
 pub mod CursorLaws
 pub mod StartLaws
+pub mod ItemLaws

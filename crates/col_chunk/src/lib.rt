@@ -6,11 +6,14 @@ mod array;
 mod chunk;
 mod cursor;
 mod folds;
+mod items;
 mod parts;
 mod reductions;
 mod rows;
 mod setting;
 mod taking;
+#[cfg(test)]
+mod tests;
 mod word_chunk;
 mod words;
 
