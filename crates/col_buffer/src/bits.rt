@@ -15,7 +15,7 @@ pub fn is_set(words: &[u64], place: usize) -> bool
 }
 
 /// The word with one bit written.
-pub(crate) fn with_bit(word: u64, place: usize, valid: bool) -> u64
+pub fn with_bit(word: u64, place: usize, valid: bool) -> u64
     requires inside { place < 64 }
     ensures here { (bit_at result place == 1) ≡ valid }
     ensures others { (i : ℕ) → i < 64 → i ≢ place → bit_at result i ≡ bit_at word i }

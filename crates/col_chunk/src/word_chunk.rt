@@ -251,8 +251,8 @@ fn write_slot<T: Word>(
     Ok(())
 }
 
-/// A chunk of these values and bits.
-pub(crate) fn from_buffers<T: Word>(
+/// A chunk of these values and words of validity, or none where each slot is valid.
+pub fn from_buffers<T: Word>(
     alloc: Global,
     values: Vec<T>,
     validity: Option<Vec<u64>>,
