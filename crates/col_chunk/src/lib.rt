@@ -13,8 +13,6 @@ mod reductions;
 mod rows;
 mod setting;
 mod taking;
-#[cfg(test)]
-mod tests;
 mod word_chunk;
 mod words;
 
