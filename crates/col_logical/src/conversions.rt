@@ -1,0 +1,56 @@
+//! Columns of words that become logical ones.
+
+ghost use Rattle.std.specs.Prelude.{◌≡◌, false};
+ghost use Rattle.col_types.specs.DataType.{is_wildcard};
+ghost use Rattle.col_types.specs.declared.data_type.DataType.{Date, Datetime, Duration};
+ghost use Rattle.col_model.specs.Chunked.{Chunked};
+ghost use Rattle.col_logical.specs.Logical.{retyped};
+
+use crate::{DateChunked, DatetimeChunked, DurationChunked, Logical};
+use col_chunk::{Int32Chunked, Int64Chunked};
+use col_types::{DataType, TimeUnit, TimeZone};
+
+/// What a column of words of 32 bits can be read as.
+pub trait Int32Logical {
+    /// The column.
+    ghost column: { Self → Chunked };
+
+    /// The words as days.
+    fn into_date(self) -> DateChunked
+        ensures column { result ≡ retyped Date (column self) };
+}
+
+impl Int32Logical for Int32Chunked {
+    ghost column = { λ array. array };
+
+    fn into_date(self) -> DateChunked {
+        Logical::new_logical(self, DataType::Date)
+    }
+}
+
+/// What a column of words of 64 bits can be read as.
+pub trait Int64Logical {
+    /// The column.
+    ghost column: { Self → Chunked };
+
+    /// The words as moments in ticks of a unit.
+    fn into_datetime(self, unit: TimeUnit, zone: Option<TimeZone>) -> DatetimeChunked
+        requires zone { is_wildcard zone ≡ false }
+        ensures column { result ≡ retyped (Datetime unit zone) (column self) };
+
+    /// The words as lengths of time in ticks of a unit.
+    fn into_duration(self, unit: TimeUnit) -> DurationChunked
+        ensures column { result ≡ retyped (Duration unit) (column self) };
+}
+
+impl Int64Logical for Int64Chunked {
+    ghost column = { λ array. array };
+
+    fn into_datetime(self, unit: TimeUnit, zone: Option<TimeZone>) -> DatetimeChunked {
+        Logical::new_logical(self, DataType::Datetime(unit, zone))
+    }
+
+    fn into_duration(self, unit: TimeUnit) -> DurationChunked {
+        Logical::new_logical(self, DataType::Duration(unit))
+    }
+}
