@@ -1,13 +1,18 @@
 -- Columns of words that are read as another type.
-use Rattle.std.specs.Prelude.{◌≡◌, ℕ, Bool, true, false, List, Option, Some, None}
+use Rattle.std.specs.Prelude.{◌≡◌, ℕ, ℤ, Bool, true, false, List, Option, Some, None}
 use Rattle.std.specs.List.{list_all}
 use Rattle.col_types.specs.declared.time_unit.TimeUnit.{TimeUnit}
 use Rattle.col_types.specs.declared.data_type.DataType.{DataType, Date, Datetime, Duration, Time}
+use Rattle.col_types.specs.declared.data_type.DataType.{Int64}
 use Rattle.col_types.specs.declared.field.Field.{Field}
-use Rattle.col_model.specs.Arithmetic.{WordType}
+use Rattle.col_model.specs.Arithmetic.{WordType, fitting_value}
 use Rattle.col_model.specs.Value.{Value}
-use Rattle.col_model.specs.Column.{Column, is_built_type, is_slot_of, physical_word}
+use Rattle.col_model.specs.Column.{Column, day_values, is_built_type, is_slot_of, physical_word}
 use Rattle.col_model.specs.Chunked.{Chunked}
+use Rattle.col_model.specs.Formula.{Formula, X, value_of}
+use Rattle.col_model.specs.UnitChange.{unit_change}
+use Rattle.col_model.specs.declared.ticks.UnitChange.{UnitChange}
+use Rattle.col_rule.specs.Columns.{mapped_column}
 
 -- ---- kinds of types
 
@@ -78,3 +83,18 @@ pub record IsLogical (is_kind : DataType → Bool) (word : WordType) (dtype : Da
   pub typed : is_built_type dtype ≡ true
   pub stored : physical_word dtype ≡ Some word
   pub day : lie_in_the_day dtype slots ≡ true
+
+-- ---- words that are changed
+
+-- a function at each word, in the same chunks
+abbrev pub with_words : (ℤ → Option ℤ) → Chunked → Chunked
+with_words f chunked = record chunked { column = mapped_column f Int64 chunked.column }
+
+-- words as times of the day: null where they lie outside it
+abbrev pub times_of : Chunked → Chunked
+times_of chunked = with_words (fitting_value day_values) chunked
+
+-- ticks of a unit in another one, by what they become in a change of unit
+abbrev pub in_unit : (UnitChange → Formula → Formula) → TimeUnit → TimeUnit → Chunked → Chunked
+in_unit changed from to chunked =
+    with_words (λ x. value_of (changed (unit_change from to) X) x x) chunked

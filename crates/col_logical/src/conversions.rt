@@ -1,14 +1,17 @@
 //! Columns of words that become logical ones.
 
-ghost use Rattle.std.specs.Prelude.{◌≡◌, false};
+ghost use Rattle.std.specs.Prelude.{◌≡◌, false, Ok};
 ghost use Rattle.col_types.specs.DataType.{is_wildcard};
-ghost use Rattle.col_types.specs.declared.data_type.DataType.{Date, Datetime, Duration};
+ghost use Rattle.col_types.specs.PolarsError.{Gives};
+ghost use Rattle.col_types.specs.declared.data_type.DataType.{Date, Datetime, Duration, Time};
 ghost use Rattle.col_model.specs.Chunked.{Chunked};
-ghost use Rattle.col_logical.specs.Logical.{retyped};
+ghost use Rattle.col_logical.specs.Logical.{retyped, times_of};
 
-use crate::{DateChunked, DatetimeChunked, DurationChunked, Logical};
+use crate::changes::times_of;
+use crate::{DateChunked, DatetimeChunked, DurationChunked, Logical, TimeChunked};
 use col_chunk::{Int32Chunked, Int64Chunked};
-use col_types::{DataType, TimeUnit, TimeZone};
+use col_types::{DataType, PolarsResult, TimeUnit, TimeZone};
+use std::alloc::Global;
 
 /// What a column of words of 32 bits can be read as.
 pub trait Int32Logical {
@@ -41,6 +44,10 @@ pub trait Int64Logical {
     /// The words as lengths of time in ticks of a unit.
     fn into_duration(self, unit: TimeUnit) -> DurationChunked
         ensures column { result ≡ retyped (Duration unit) (column self) };
+
+    /// The words as nanoseconds since the day began. A word outside the day becomes null.
+    fn into_time(self, alloc: Global) -> PolarsResult<TimeChunked>
+        ensures column { Gives result (Ok (retyped Time (times_of (column self)))) };
 }
 
 impl Int64Logical for Int64Chunked {
@@ -52,5 +59,12 @@ impl Int64Logical for Int64Chunked {
 
     fn into_duration(self, unit: TimeUnit) -> DurationChunked {
         Logical::new_logical(self, DataType::Duration(unit))
+    }
+
+    fn into_time(self, alloc: Global) -> PolarsResult<TimeChunked> {
+        match times_of(alloc, &self) {
+            Ok(times) => Ok(Logical::new_logical(times, DataType::Time)),
+            Err(refusal) => Err(refusal),
+        }
     }
 }

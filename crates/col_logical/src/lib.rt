@@ -2,11 +2,16 @@
 #![tactic(auto)]
 
 mod appending;
+mod changes;
 mod conversions;
 mod datetime;
 mod duration;
 mod kinds;
 mod logical;
+mod rules;
+#[cfg(test)]
+mod tests;
+mod units;
 
 pub use conversions::{Int32Logical, Int64Logical};
 pub use kinds::{DateType, DatetimeType, DurationType, LogicalKind, TimeType};

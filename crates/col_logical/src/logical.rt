@@ -93,10 +93,8 @@ impl<K: LogicalKind, T: Word> Logical<K, T> {
         ensures field { Gives result (Ok (field_of self.now.column)) }
     {
         let name = self.phys.name().clone()?;
-        Ok(Field {
-            name,
-            dtype: self.dtype.clone_flat(),
-        })
+        let dtype = self.dtype.clone_flat();
+        Ok(Field { name, dtype })
     }
 
     /// The name.
