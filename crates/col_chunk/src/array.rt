@@ -142,6 +142,7 @@ impl<C: Chunk> ArrayOf<C> {
 
     /// Does nothing. Says what holds of each column.
     pub fn known(&self)
+        ensures dtype { self.now.column.dtype ≡ C.dtype }
         ensures short { length self.now.column.slots < 2 ^ 32 }
         ensures fit { list_all C.is_slot self.now.column.slots ≡ true }
         ensures sorted { is_flag_true self.now.column.flag self.now.column.slots ≡ true }

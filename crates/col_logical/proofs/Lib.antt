@@ -1,0 +1,4 @@
+mod AnswerLaws
+mod DayLaws
+mod UnitLaws
+mod WordReadings
