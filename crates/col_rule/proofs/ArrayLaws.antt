@@ -1,8 +1,7 @@
 -- Laws of rules over chunks.
-use Rattle.std.specs.Prelude.{◌≡◌, ◌+◌, ◌<◌, ◌&&◌, ℕ, zero, suc, ℤ, Bool, true, false, List, [], ◌∷◌, ◌++◌, Option, Some, None, IfSome, length, map, drop, is_some, is_none, if◌then◌else◌}
-use Rattle.std.specs.List.{flat_map}
-use Rattle.std.proofs.Common.{refl, ap, sym, ◌∙◌, arith, get_or, add-zero}
-use Rattle.std.proofs.lemmas.List.{drop_more, append_assoc, length-append, map-append}
+use Rattle.std.specs.Prelude.{◌≡◌, ◌+◌, ◌<◌, ◌&&◌, ℕ, zero, suc, ℤ, Bool, true, false, List, [], ◌∷◌, ◌++◌, Option, Some, None, IfSome, length, drop, is_some, is_none, if◌then◌else◌}
+use Rattle.std.proofs.Common.{refl, ap, sym, ◌∙◌, arith, get_or}
+use Rattle.std.proofs.lemmas.List.{drop_more, append_assoc, map-append}
 use Rattle.col_model.specs.Value.{Value, on_slot}
 use Rattle.col_model.specs.ColumnCalls.{first_lost}
 use Rattle.col_chunk.specs.Chunks.{joined, lengths_of}

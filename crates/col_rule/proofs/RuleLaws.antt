@@ -1,10 +1,10 @@
 -- Laws of rules over lists of words.
-use Rattle.std.specs.Prelude.{◌≡◌, ◌≢◌, ◌+◌, ◌*◌, ◌-◌, ◌≤◌, ◌<◌, ◌==◌, ◌&&◌, not, ℕ, zero, suc, ℤ, Bool, true, false, List, [], ◌∷◌, ◌++◌, Option, Some, None, length, take, drop, slice_index_or, replicate, min, is_some, is_none, if◌then◌else◌}
+use Rattle.std.specs.Prelude.{◌≡◌, ◌≢◌, ◌+◌, ◌*◌, ◌-◌, ◌≤◌, ◌<◌, ◌==◌, ◌&&◌, not, ℕ, zero, suc, ℤ, Bool, true, false, List, [], ◌∷◌, ◌++◌, Option, Some, None, length, take, drop, min, is_some, is_none, if◌then◌else◌}
 use Rattle.std.specs.Int.{bit_at}
 use Rattle.std.proofs.Common.{refl, ap, sym, ◌∙◌, arith, add-zero, get_or, inl, inr}
 use Rattle.std.proofs.lemmas.Bool.{cases_lt}
-use Rattle.std.proofs.lemmas.List.{drop_more, take_all, append-nil, drop-append-le, length-drop, length-append, append_assoc, drop_all, take-append-drop, length-map, get_or-map}
-use Rattle.col_model.specs.Value.{Value, whole, on_slots, on_slot, integer_slot}
+use Rattle.std.proofs.lemmas.List.{drop_more, take_all, append-nil, drop-append-le, length-drop, append_assoc, drop_all, take-append-drop}
+use Rattle.col_model.specs.Value.{Value, on_slots, on_slot, integer_slot}
 use Rattle.col_model.specs.ColumnCalls.{first_lost}
 use Rattle.col_buffer.specs.Joining.{HasBoth}
 use Rattle.col_buffer.specs.Validity.{masked, slot_if, valid_at}
@@ -12,7 +12,7 @@ use Rattle.std.proofs.lemmas.Grind.{take-set_at}
 use Rattle.std.specs.Prelude.{slice_set}
 use Rattle.col_buffer.proofs.SlotLaws.{length-masked, masked-append, pushed}
 use Rattle.col_rule.proofs.BitLaws.{word-push, word-append}
-use Rattle.col_rule.specs.Rules.{first_gap, mapped, met_slots, paired, word_slots_by}
+use Rattle.col_rule.specs.Rules.{first_gap, met_slots, paired, word_slots_by}
 
 -- ---- sources
 

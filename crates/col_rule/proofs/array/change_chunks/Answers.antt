@@ -1,6 +1,5 @@
-use Rattle.std.proofs.Common.{arith, ap, sym, ◌∙◌, ◌++◌, ◌+◌, length, drop}
+use Rattle.std.proofs.Common.{arith, ap, ◌∙◌, ◌+◌, length, drop}
 use Rattle.std.proofs.lemmas.List.{length-append, length-map}
-use Rattle.std.specs.Prelude.{IfSome, ◌<◌}
 use Rattle.col_model.specs.Value.{on_slot}
 use Rattle.col_chunk.specs.Chunks.{joined}
 use Rattle.col_rule.proofs.ArrayLaws.{more_chunks, slots-step, lengths-step, lost-step, lost-within}

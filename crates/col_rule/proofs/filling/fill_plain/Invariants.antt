@@ -1,4 +1,4 @@
-use Rattle.std.proofs.Common.{◌≡◌, ◌++◌, ◌*◌, None, true, take, drop, length}
+use Rattle.std.proofs.Common.{◌≡◌, ◌++◌, None, true, take, drop, length}
 use Rattle.col_buffer.specs.Validity.{masked}
 use Rattle.col_rule.proofs.filling.fill_plain.Given as goal
 

@@ -1,4 +1,4 @@
-use Rattle.std.proofs.Common.{arith, ap, ◌∙◌, ◌++◌, ◌+◌, List, Option, drop, take, length, length-drop, length-take}
+use Rattle.std.proofs.Common.{arith, ap, ◌+◌, drop, length, length-drop, length-take}
 use Rattle.std.proofs.lemmas.List.{length-append}
 use Rattle.col_chunk.specs.Chunks.{joined, rows_left}
 use Rattle.col_rule.proofs.RowLaws.{length-paired}
