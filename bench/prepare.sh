@@ -1,5 +1,6 @@
 # Read by the other scripts, which set `here`: prepare CRATE PEER [PROGRAM] finds the proved program of
-# a crate, or the one that is given, as `program`, and builds the peer as build/PEER.
+# a crate, or the one that is given, as `program`, and builds the peer as build/PEER, with the flags
+# `peer_flags` where there are some.
 prepare() {
     program=${3:-$here/../crates/$1/out/$1}
     if [ ! -x "$program" ]; then
@@ -7,5 +8,5 @@ prepare() {
         exit 2
     fi
     mkdir -p "$here/build"
-    rustc --edition 2024 -O -o "$here/build/$2" "$here/$2.rs"
+    rustc --edition 2024 -O ${peer_flags:-} -o "$here/build/$2" "$here/$2.rs"
 }

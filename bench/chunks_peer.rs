@@ -1,0 +1,82 @@
+//! The peer of the benchmark of chunks: the same reductions over plain slices, with words of bits that tell
+//! which words are valid or none where all are, in plain Rust.
+
+use std::process::ExitCode;
+
+const ROWS: usize = 1_000_000;
+
+/// Words, and a bit for each that is set where it is valid.
+struct Column {
+    words: Vec<i64>,
+    valid: Option<Vec<u64>>,
+}
+
+impl Column {
+    /// A column where each row that the step divides is null, unless the step is 0.
+    fn new(null_step: usize) -> Column {
+        let mut word = 1i64;
+        let words = (0..ROWS)
+            .map(|_| {
+                word = word
+                    .wrapping_mul(6_364_136_223_846_793_005)
+                    .wrapping_add(1_442_695_040_888_963_407);
+                word
+            })
+            .collect();
+        let valid = (null_step > 0).then(|| {
+            let mut bits = vec![u64::MAX; ROWS.div_ceil(64)];
+            for row in (0..ROWS).step_by(null_step) {
+                bits[row / 64] &= !(1 << (row % 64));
+            }
+            bits
+        });
+        Column { words, valid }
+    }
+
+    /// Joins the valid words.
+    fn fold(&self, start: i64, join: impl Fn(i64, i64) -> i64) -> i64 {
+        let Some(valid) = &self.valid else {
+            return self.words.iter().fold(start, |total, word| join(total, *word));
+        };
+        let mut total = start;
+        for (words, bits) in self.words.chunks(64).zip(valid) {
+            for (at, word) in words.iter().enumerate() {
+                if (bits >> at) & 1 == 1 {
+                    total = join(total, *word);
+                }
+            }
+        }
+        total
+    }
+
+    fn answer(&self, call: &str) -> Option<i64> {
+        match call {
+            "sum" => Some(self.fold(0, i64::wrapping_add)),
+            "product" => Some(self.fold(1, i64::wrapping_mul)),
+            "min" => Some(self.fold(i64::MAX, i64::min)),
+            "max" => Some(self.fold(i64::MIN, i64::max)),
+            _ => None,
+        }
+    }
+}
+
+fn main() -> ExitCode {
+    let args: Vec<String> = std::env::args().skip(1).collect();
+    let [call, null_step, _, rounds] = args.as_slice() else {
+        return ExitCode::from(2);
+    };
+    let (Ok(null_step), Ok(rounds)) = (null_step.parse::<usize>(), rounds.parse::<u32>()) else {
+        return ExitCode::from(2);
+    };
+    let mut column = Column::new(null_step);
+    let mut total = 0i64;
+    for round in 0..rounds {
+        column.words[(round % 8) as usize + 1] = i64::from(round);
+        let Some(answer) = column.answer(call) else {
+            return ExitCode::from(2);
+        };
+        total = total.wrapping_mul(31).wrapping_add(answer);
+    }
+    println!("{total}");
+    ExitCode::SUCCESS
+}

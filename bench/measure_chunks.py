@@ -1,0 +1,94 @@
+#!/usr/bin/env python3
+"""Runs the calls of a column of words and their peer in turn, and compares them.
+
+    measure_chunks.py PROGRAM PEER [RUNS]
+
+The processor time of no round is taken off each, so that what is left is the
+rounds'; of several runs the best one counts. It prints ratios, and ends with 1
+where two answers differ or a target is missed.
+"""
+
+import resource
+import subprocess
+import sys
+
+ROWS = 1_000_000
+
+# How far nulls are apart (0: none), and the most time that is wanted, in the peer's.
+NULLS = ((0, 1.3), (16, 2.0))
+
+# A call, and how many rounds over a million slots it is run.
+REDUCTIONS = (("sum", 600), ("product", 600), ("min", 600), ("max", 600))
+
+# The same for calls that are made on one chunk and on many, of ten rows each, and the most time that
+# is wanted on many, in that on one.
+MANY = 10
+CALLS = (("sum", 600), ("reverse", 60), ("take", 20), ("views", 200), ("runs", 60))
+MOST_ON_MANY = 2.0
+
+
+def run(command):
+    """The processor seconds of a run, and what it prints."""
+    before = resource.getrusage(resource.RUSAGE_CHILDREN)
+    done = subprocess.run(command, capture_output=True, text=True, check=True)
+    after = resource.getrusage(resource.RUSAGE_CHILDREN)
+    used = after.ru_utime + after.ru_stime - before.ru_utime - before.ru_stime
+    return used, done.stdout
+
+
+def ratio(first, second, runs):
+    """How many times the rounds of the second command the rounds of the first one take."""
+    best = {}
+    answers = {}
+    for _ in range(runs):
+        for who, command in (("first", first), ("second", second)):
+            for rounds in (0, command[-1]):
+                used, answer = run([*command[:-1], str(rounds)])
+                best[who, rounds] = min(used, best.get((who, rounds), used))
+                answers.setdefault(rounds, set()).add(answer)
+    if any(len(each) != 1 for each in answers.values()):
+        sys.exit(f"{first}: the answers differ")
+    rounds = first[-1]
+    of_rounds = {who: best[who, rounds] - best[who, 0] for who in ("first", "second")}
+    return of_rounds["first"] / of_rounds["second"]
+
+
+def is_met(text, times, most):
+    print(f"{text}: {times:.2f} (at most {most}): {'met' if times <= most else 'MISSED'}", flush=True)
+    return times <= most
+
+
+def command(program, call, null_step, chunk_rows, rounds):
+    return [program, call, str(null_step), str(chunk_rows), rounds]
+
+
+def are_like_peer(program, peer, runs):
+    """Whether reductions of one chunk keep their targets beside the peer."""
+    met = []
+    for null_step, most in NULLS:
+        for call, rounds in REDUCTIONS:
+            pair = [command(who, call, null_step, ROWS, rounds) for who in (program, peer)]
+            nulls = f"one null in {null_step}" if null_step else "no nulls"
+            met.append(is_met(f"{call}, {nulls}, times its peer", ratio(*pair, runs), most))
+    return met
+
+
+def are_like_one(program, runs):
+    """Whether calls on many chunks take little longer than on one."""
+    met = []
+    for call, rounds in CALLS:
+        pair = [command(program, call, 0, rows, rounds) for rows in (MANY, ROWS)]
+        text = f"{call}, {ROWS // MANY:,} chunks, times one chunk"
+        met.append(is_met(text, ratio(*pair, runs), MOST_ON_MANY))
+    return met
+
+
+def main():
+    program, peer = sys.argv[1:3]
+    runs = int(sys.argv[3]) if len(sys.argv) > 3 else 7
+    met = are_like_peer(program, peer, runs) + are_like_one(program, runs)
+    sys.exit(0 if all(met) else 1)
+
+
+if __name__ == "__main__":
+    main()

@@ -1,0 +1,75 @@
+// The columns that the calls are made on.
+use anyhow::{Result, ensure};
+use col_chunk::{IdxCa, Int64Chunked};
+use col_types::{PlSmallStr, PolarsError, PolarsResult};
+use std::alloc::Global;
+
+/// How many rows the columns have.
+const ROWS: usize = 1_000_000;
+
+/// A word that looks random, from the one before it.
+fn word_after(word: i64) -> i64 {
+    word.wrapping_mul(6_364_136_223_846_793_005)
+        .wrapping_add(1_442_695_040_888_963_407)
+}
+
+/// Writes a slot. Refused where there is no such row (`OutOfBounds`).
+fn set_slot(column: &mut Int64Chunked, row: usize, slot: Option<i64>) -> PolarsResult<()> {
+    let len = column.len();
+    if row >= len {
+        return Err(PolarsError::OutOfBounds { index: row, len });
+    }
+    column.set_slot(row, slot)
+}
+
+/// Writes a word. Refused where there is no such row (`OutOfBounds`).
+pub fn set_word(column: &mut Int64Chunked, row: usize, word: i64) -> PolarsResult<()> {
+    set_slot(column, row, Some(word))
+}
+
+/// A column of the words from a row on, in one chunk, where each slot of a row that the step divides is
+/// null, unless the step is 0.
+fn chunk_of(alloc: Global, words: &[i64], first: usize, null_step: usize) -> Result<Int64Chunked> {
+    let name = PlSmallStr::from_str(alloc, "words")?;
+    let mut column = Int64Chunked::from_slice(alloc, name, words)?;
+    if null_step > 0 {
+        for row in 0..words.len() {
+            if first.wrapping_add(row) % null_step == 0 {
+                set_slot(&mut column, row, None)?;
+            }
+        }
+    }
+    Ok(column)
+}
+
+/// A column of a million words in chunks of so many rows.
+pub fn column_of(alloc: Global, null_step: u32, chunk_rows: usize) -> Result<Int64Chunked> {
+    ensure!(chunk_rows > 0, "chunks without rows");
+    let mut words = Vec::with_capacity(alloc, ROWS)?;
+    let mut word = 1i64;
+    for _ in 0..ROWS {
+        word = word_after(word);
+        words.push(word)?;
+    }
+    let mut column = chunk_of(alloc, &[], 0, 0)?.slice(alloc, 0, 0)?;
+    let mut first = 0usize;
+    for words in words.as_slice().chunks(chunk_rows) {
+        column.append(&chunk_of(alloc, words, first, null_step as usize)?)?;
+        first = first.wrapping_add(chunk_rows);
+    }
+    Ok(column)
+}
+
+/// Each row of the column once, far apart.
+pub fn scattered_rows(alloc: Global) -> Result<IdxCa> {
+    let mut rows = Vec::with_capacity(alloc, ROWS)?;
+    for at in 0..ROWS {
+        rows.push(row_at(at))?;
+    }
+    Ok(IdxCa::from_vec(alloc, PlSmallStr::from_str(alloc, "rows")?, rows)?)
+}
+
+/// The row at a place of scattered ones: 7,919 and a million have no divisor in common.
+fn row_at(at: usize) -> u32 {
+    (at.wrapping_mul(7_919) % ROWS) as u32
+}

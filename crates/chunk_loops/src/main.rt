@@ -1,0 +1,79 @@
+//! Makes one call of a column of a million words, many times over, and prints what its answers come to,
+//! so that `bench/` can time it.
+#![tactic(auto)]
+
+mod columns;
+mod walks;
+
+use anyhow::{Context, Result, bail};
+use col_chunk::{IdxCa, Int64Chunked};
+use columns::{column_of, scattered_rows, set_word};
+use std::alloc::Global;
+use std::env;
+
+/// Joins what a call answers to what there was so far.
+fn mixed(total: i64, answer: i64) -> i64 {
+    total.wrapping_mul(31).wrapping_add(answer)
+}
+
+/// The first and the last slot of a column, 0 for a null one.
+fn ends_of(column: &Int64Chunked) -> i64 {
+    let len = column.len();
+    if len == 0 {
+        return 0;
+    }
+    let first = column.get(0).unwrap_or(0);
+    mixed(first, column.get(len - 1).unwrap_or(0))
+}
+
+/// The same of the column from the last row to the first.
+fn ends_reversed(alloc: Global, column: &Int64Chunked) -> Result<i64> {
+    Ok(ends_of(&column.reverse(alloc)?))
+}
+
+/// The same of the rows that indices name.
+fn ends_taken(alloc: Global, column: &Int64Chunked, indices: &IdxCa) -> Result<i64> {
+    Ok(ends_of(&column.take(alloc, indices)?))
+}
+
+/// What one call answers.
+fn answer_of(alloc: Global, column: &Int64Chunked, call: &str, indices: &IdxCa) -> Result<i64> {
+    match call {
+        "sum" => Ok(column.sum()),
+        "product" => Ok(column.product()),
+        "min" => Ok(column.min().unwrap_or(0)),
+        "max" => Ok(column.max().unwrap_or(0)),
+        "reverse" => ends_reversed(alloc, column),
+        "take" => ends_taken(alloc, column, indices),
+        "views" => Ok(walks::sum_by_views(column)),
+        "runs" => Ok(walks::sum_by_runs(alloc, column)?),
+        _ => bail!("no call {call}"),
+    }
+}
+
+/// What the call answers in so many rounds, each with another word in one of the first rows.
+fn repeat(alloc: Global, column: &mut Int64Chunked, call: &str, rounds: u32) -> Result<i64> {
+    let indices = scattered_rows(alloc)?;
+    let mut total = 0i64;
+    for round in 0..rounds {
+        set_word(column, (round % 8) as usize + 1, i64::from(round))?;
+        total = mixed(total, answer_of(alloc, column, call, &indices)?);
+    }
+    Ok(total)
+}
+
+fn main(rt: HostRuntime) -> Result<()> {
+    let alloc = rt.alloc();
+    let mut args = env::args(&rt)?.skip(1);
+    let call = args.next().context("a call")?;
+    let null_step = args.next().context("how far nulls are apart")?;
+    let null_step = null_step.as_str().parse::<u32>().context("how far")?;
+    let chunk_rows = args.next().context("rows of a chunk")?;
+    let chunk_rows = chunk_rows.as_str().parse::<usize>().context("rows")?;
+    let rounds = args.next().context("rounds")?;
+    let rounds = rounds.as_str().parse::<u32>().context("rounds")?;
+    let mut column = column_of(alloc, null_step, chunk_rows)?;
+    let total = repeat(alloc, &mut column, call.as_str(), rounds)?;
+    println!(rt; "{total}")?;
+    Ok(())
+}
