@@ -134,7 +134,7 @@ def known(count):
         count.column(rows, 2)
         count.case(2 * 7)
     for rows in (3, 3, 2, 2, 4, 5):
-        count.column(rows, 3)
+        count.column(rows, 1)
 
 
 def slots(count, rows):

@@ -27,9 +27,7 @@ pub fn check_known(alloc: Global) -> Result<Tally> {
     check_signed(alloc, &mut tally)?;
     check_narrow(alloc, &mut tally)?;
     check_wide(alloc, &mut tally)?;
-    u8::check_ends(alloc, &mut tally)?;
-    i64::check_ends(alloc, &mut tally)?;
-    i128::check_ends(alloc, &mut tally)?;
+    check_ends(alloc, &mut tally)?;
     Ok(tally)
 }
 
@@ -168,35 +166,22 @@ impl<T: Word> Known<'_, T> {
 }
 
 /// The least and the greatest word with a null between them, moved about.
-trait Ends {
-    fn check_ends(alloc: Global, tally: &mut Tally) -> Result<()>;
+fn check_ends(alloc: Global, tally: &mut Tally) -> Result<()> {
+    let (low, high) = (i64::MIN, i64::MAX);
+    let mut column = in_row_chunks(alloc, NAME, &[Some(low), None, Some(high)])?;
+    let turned = column.reverse(alloc)?;
+    tally.expect_column("reverse", &turned, NAME, &[Some(high), None, Some(low)]);
+    let moved = column.shift(alloc, -1)?;
+    tally.expect_column("shift", &moved, NAME, &[None, Some(high), None]);
+    let last = column.slice(alloc, -2, 5)?;
+    tally.expect_column("slice", &last, NAME, &[None, Some(high)]);
+    let valid = column.drop_nulls(alloc)?;
+    tally.expect_column("drop_nulls", &valid, NAME, &[Some(low), Some(high)]);
+    let named = column.take_slice(alloc, &[2, 2, 1, 0])?;
+    let slots = [Some(high), Some(high), None, Some(low)];
+    tally.expect_column("take_slice", &named, NAME, &slots);
+    column.extend(&valid)?;
+    let slots = [Some(low), None, Some(high), Some(low), Some(high)];
+    tally.expect_column("extend", &column, NAME, &slots);
+    Ok(())
 }
-
-// An array of a word that isn't known may pass the memory, so each word has its own.
-macro_rules! check_ends_of {
-    ($($word:ty),*) => {$(
-        impl Ends for $word {
-            fn check_ends(alloc: Global, tally: &mut Tally) -> Result<()> {
-                let (low, high) = (<$word>::MIN, <$word>::MAX);
-                let mut column = in_row_chunks(alloc, NAME, &[Some(low), None, Some(high)])?;
-                let turned = column.reverse(alloc)?;
-                tally.expect_column("reverse", &turned, NAME, &[Some(high), None, Some(low)]);
-                let moved = column.shift(alloc, -1)?;
-                tally.expect_column("shift", &moved, NAME, &[None, Some(high), None]);
-                let last = column.slice(alloc, -2, 5)?;
-                tally.expect_column("slice", &last, NAME, &[None, Some(high)]);
-                let valid = column.drop_nulls(alloc)?;
-                tally.expect_column("drop_nulls", &valid, NAME, &[Some(low), Some(high)]);
-                let named = column.take_slice(alloc, &[2, 2, 1, 0])?;
-                let slots = [Some(high), Some(high), None, Some(low)];
-                tally.expect_column("take_slice", &named, NAME, &slots);
-                column.extend(&valid)?;
-                let slots = [Some(low), None, Some(high), Some(low), Some(high)];
-                tally.expect_column("extend", &column, NAME, &slots);
-                Ok(())
-            }
-        }
-    )*};
-}
-
-check_ends_of!(u8, i64, i128);
