@@ -9,7 +9,7 @@ use col_buffer::is_set;
 
 /// The words, where there are some.
 pub(crate) fn words_of(bits: &Option<Vec<u64>>) -> Option<&[u64]>
-    ensures { option_map (λ words. words.now) result ≡ option_map (λ words. words.items) bits.now }
+    ensures words { option_map (λ words. words.now) result ≡ option_map (λ words. words.items) bits.now }
 {
     match bits {
         None => None,
@@ -19,8 +19,8 @@ pub(crate) fn words_of(bits: &Option<Vec<u64>>) -> Option<&[u64]>
 
 /// Whether a place is valid.
 fn is_valid(bits: Option<&[u64]>, place: usize) -> bool
-    requires { Reaches (option_map (λ words. words.now) bits) (place + 1) }
-    ensures { result ≡ valid_at (option_map (λ words. words.now) bits.entry) place }
+    requires reach { Reaches (option_map (λ words. words.now) bits) (place + 1) }
+    ensures valid { result ≡ valid_at (option_map (λ words. words.now) bits.entry) place }
 {
     match bits {
         None => true,

@@ -17,11 +17,11 @@ returns-clause-slots g c =
     let own = c.buffers-offset in
     c.in_ok-chunk.ensures.slots
     ∙ mapped_are g.T.Word.reading g.U.Word.reading (g.R.SlotRule.value c.args.rule.now) _ _ _ own.result.2 _ own.result.0.now c.in_ok-filled.filled.values.items c.args.chunk.now
-    own.ensures.slots refl c.in_ok-filled.ensures.values (rw c.words_of-2.ensures at c.in_ok-valid.ensures.bits)
+    own.ensures.slots refl c.in_ok-filled.ensures.values (rw c.words_of-2.ensures.words at c.in_ok-valid.ensures.bits)
 
 pub returns-clause-lost : goal.returns-clause-lost
 returns-clause-lost g c =
     let own = c.buffers-offset in
-    (rw c.words_of.ensures at c.first_gap-lost.ensures.row)
+    (rw c.words_of.ensures.words at c.first_gap-lost.ensures.row)
     ∙ gap_of g.T.Word.reading g.U.Word.reading (g.R.SlotRule.kept c.args.rule.now) _ _ own.result.2 _ own.result.0.now c.in_ok-filled.filled.values.items c.args.chunk.now
     own.ensures.slots refl c.in_ok-filled.ensures.keeps
