@@ -11,8 +11,6 @@ mod pairs;
 mod scalar;
 mod scalar_intervals;
 mod scalars;
-#[cfg(test)]
-mod tests;
 mod ticks;
 
 pub use arith::SeriesArith;

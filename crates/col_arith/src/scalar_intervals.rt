@@ -1,15 +1,14 @@
 // Where the ticks lie that scalar forms give.
-ghost use Rattle.std.specs.Prelude.{◌≡◌, ◌≤◌, true, Some, IfSome};
-ghost use Rattle.std.specs.Option.{option_and_then, option_map};
-ghost use Rattle.col_model.specs.Arithmetic.{word_values, is_within};
+ghost use Rattle.std.specs.Prelude.{◌≡◌, true, Some};
+ghost use Rattle.std.specs.Option.{option_and_then};
+ghost use Rattle.col_model.specs.Arithmetic.{word_values};
 ghost use Rattle.col_model.specs.Column.{is_built_type};
-ghost use Rattle.col_model.specs.Formula.{X, interval_of, inside_interval};
+ghost use Rattle.col_model.specs.Formula.{interval_of, inside_interval};
 ghost use Rattle.col_model.specs.IntervalRoom.{IsNear, IsOrdered, only};
-ghost use Rattle.col_model.specs.OperatorTable.{OperatorRule};
 ghost use Rattle.col_model.specs.RuleIntervals.{scalar_interval};
 ghost use Rattle.col_model.specs.ScalarTable.{is_scalar_of, right_form, left_form};
 ghost use Rattle.col_model.specs.ScalarTable.{scalar_right_rule, scalar_left_rule};
-ghost use Rattle.col_arith.specs.ScalarForm.{form_of, bounded_by, word_of, scalar_tick};
+ghost use Rattle.col_arith.specs.ScalarForm.{form_of, bounded_by, word_of};
 ghost use Rattle.col_arith.specs.Intervals.{form_rule};
 
 use crate::scalars::{ScalarForm, Ticks, ticks_of};

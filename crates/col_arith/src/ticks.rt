@@ -6,7 +6,7 @@ ghost use Rattle.col_model.specs.Formula.{X, Y, value_of, divided, on_both};
 ghost use Rattle.col_model.specs.UnitChange as units;
 ghost use Rattle.col_model.specs.OperatorTable.{wrapping};
 ghost use Rattle.col_arith.specs.PairRule.{formula_of, add_or_sub, operand_of};
-ghost use Rattle.col_arith.specs.PairRule.{IsProper, IsProperOperand, IsDay, IsShortDay};
+ghost use Rattle.col_arith.specs.PairRule.{IsProper, IsProperOperand, IsShortDay};
 ghost use Rattle.col_arith.specs.PairRule.{is_tick_in, date_values, tick_values};
 ghost use Rattle.col_arith.specs.PairRule.{left_values, right_values, answer_values};
 

@@ -1,6 +1,6 @@
 //! Which places are valid: words of bits that may be shared, or none where all are.
 
-ghost use Rattle.std.specs.Prelude.{◌≡◌, ◌+◌, ◌-◌, ◌*◌, ◌<◌, ◌≤◌, ◌==◌, ℕ, false, IfOk, OnOk, OnErr, Some, None, length, slice_set};
+ghost use Rattle.std.specs.Prelude.{◌≡◌, ◌+◌, ◌-◌, ◌*◌, ◌<◌, ◌≤◌, ◌==◌, ℕ, false, IfOk, OnOk, OnErr, Some, None, length};
 ghost use Rattle.std.specs.Int.{bit_at};
 ghost use Rattle.std.specs.Option.{option_map};
 ghost use Rattle.col_buffer.specs.Validity.{AddsRange, AddsValid, Reaches, SetsBit, SetsValid, valid_at, valid_count};

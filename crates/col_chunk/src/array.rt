@@ -1,6 +1,6 @@
 //! A column in chunks, whatever its chunks keep.
 
-ghost use Rattle.std.specs.Prelude.{◌≡◌, true, ◌+◌, ◌<◌, ◌^◌, ◌++◌, IfOk, None, Ok, drop, length, slice_index, slice_index_or};
+ghost use Rattle.std.specs.Prelude.{◌≡◌, true, ◌+◌, ◌<◌, ◌^◌, IfOk, None, Ok, length, slice_index, slice_index_or};
 ghost use Rattle.std.specs.List.{list_all};
 ghost use Rattle.col_types.specs.PolarsError.{Becomes, Gives};
 ghost use Rattle.col_types.specs.declared.is_sorted.IsSorted.TheVariants.{Not};

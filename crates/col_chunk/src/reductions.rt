@@ -1,6 +1,6 @@
 //! What columns of words come to.
 
-ghost use Rattle.std.specs.Prelude.{◌≡◌, ◌+ℤ◌, ◌*ℤ◌, ◌+◌, ◌≤◌, ◌∷◌, [], IfNone, IfSome, drop, fold, length};
+ghost use Rattle.std.specs.Prelude.{◌≡◌, ◌+ℤ◌, ◌*ℤ◌, ◌+◌, ◌≤◌, drop, fold, length};
 ghost use Rattle.std.specs.List.{reduce};
 ghost use Rattle.std.specs.Option.{option_map};
 ghost use Rattle.col_model.specs.Arithmetic.{wrapped_value};

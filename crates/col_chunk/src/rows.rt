@@ -1,6 +1,6 @@
 //! Rows that are copied: backwards, without nulls, one so many times.
 
-ghost use Rattle.std.specs.Prelude.{◌≡◌, ◌+◌, ◌++◌, ◌<◌, ◌≤◌, IfOk, OnOk, Ok, filter, is_some, length, reverse};
+ghost use Rattle.std.specs.Prelude.{◌≡◌, ◌+◌, ◌++◌, ◌<◌, IfOk, OnOk, Ok, filter, is_some, length, reverse};
 ghost use Rattle.col_types.specs.PolarsError.{GivesBy};
 ghost use Rattle.col_model.specs.Chunked.{column_of};
 ghost use Rattle.col_model.specs.ChunkCalls.{repeated, turned, without_nulls};

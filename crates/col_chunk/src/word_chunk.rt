@@ -1,7 +1,7 @@
 //! A chunk of plain words and words of validity, both shared.
 #![tactic(auto, using(crate::proofs::WordLaws::word_laws))]
 
-ghost use Rattle.std.specs.Prelude.{◌≡◌, ◌+◌, ◌<◌, ◌≤◌, ◌∷◌, ◌++◌, [], true, IfOk, OnOk, OnErr, Some, None, length, take, drop, replicate, slice_index_or, slice_set};
+ghost use Rattle.std.specs.Prelude.{◌≡◌, ◌+◌, ◌<◌, ◌≤◌, ◌∷◌, ◌++◌, [], true, IfOk, OnOk, OnErr, Some, None, length, take, drop, slice_set};
 ghost use Rattle.std.specs.Option.{option_map};
 ghost use Rattle.col_model.specs.Value.{whole};
 ghost use Rattle.col_model.specs.Words.{is_word_slot, word_dtype};

@@ -24,7 +24,7 @@ use Rattle.col_model.specs.RuleIntervals.{typed_interval}
 use Rattle.col_expr.specs.declared.node.UnaryOp.{UnaryOp}
 use Rattle.col_expr.specs.declared.node.UnaryOp.TheVariants as operations
 use Rattle.col_expr.specs.declared.part.Part.{Part}
-use Rattle.col_expr.specs.Tree.{Tree, Input, Cast, Binary, ScalarRight, ScalarLeft, InUnit, Shift, node_count}
+use Rattle.col_expr.specs.Tree.{Tree, Input, Binary, node_count}
 use Rattle.col_expr.specs.Numbers.{Numbers, One, number_at, below, numbers_from}
 use Rattle.col_expr.specs.Node.{over}
 use Rattle.col_expr.specs.Meaning.{dtype_of, rule_dtype}

@@ -6,7 +6,7 @@ ghost use Rattle.col_model.specs.Chunked.{columns_of, column_of};
 ghost use Rattle.col_model.specs.Value.{integer_slot};
 ghost use Rattle.col_model.specs.IntervalRoom.{IsOrdered};
 ghost use Rattle.col_expr.specs.Tree.{node_count, Input, max_nodes};
-ghost use Rattle.col_expr.specs.Numbers.{numbers_from, One};
+ghost use Rattle.col_expr.specs.Numbers.{numbers_from};
 ghost use Rattle.col_expr.specs.Node.{node_tree};
 ghost use Rattle.col_expr.specs.Built.{is_built_tree};
 ghost use Rattle.col_expr.specs.Plan.{is_plan_valid, is_slot_within, is_column_within};

@@ -6,8 +6,6 @@ mod error;
 mod evaluation;
 mod expr;
 mod fold_laws;
-#[cfg(test)]
-mod fold_tests;
 mod folded;
 mod found_plan;
 mod inputs;
@@ -18,11 +16,7 @@ mod operations;
 mod part;
 mod plan;
 mod plan_laws;
-#[cfg(test)]
-mod plan_tests;
 mod steps;
-#[cfg(test)]
-mod tests;
 mod waiting;
 
 pub use check::check_plan;

@@ -5,8 +5,6 @@ mod decimal;
 mod formulas;
 mod kernels;
 mod loops;
-#[cfg(test)]
-mod tests;
 mod wide;
 mod word_trait;
 mod words;

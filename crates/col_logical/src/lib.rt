@@ -9,8 +9,6 @@ mod duration;
 mod kinds;
 mod logical;
 mod rules;
-#[cfg(test)]
-mod tests;
 mod units;
 
 pub use conversions::{Int32Logical, Int64Logical};

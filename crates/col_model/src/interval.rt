@@ -5,7 +5,7 @@ ghost use Rattle.col_model.specs.Arithmetic.{is_within, is_inside};
 ghost use Rattle.col_model.specs.Arithmetic.{floor_by, trunc_by, floor_div, trunc_div};
 ghost use Rattle.col_model.specs.Formula.{spanned, at_ends, between_ends, quotient_interval};
 ghost use Rattle.col_model.specs.Formula.{rest_interval, inside_interval};
-ghost use Rattle.col_model.specs.IntervalRoom.{IsNear, IsOrdered, Multiply, only};
+ghost use Rattle.col_model.specs.IntervalRoom.{IsNear, IsOrdered, Multiply};
 
 use std::marker::Model;
 

@@ -26,6 +26,3 @@ pub use ticks::{
     fitting_day, ticks_per_day, time_of, unit_change, wrapped_datetime_by, wrapped_day,
     wrapped_duration_by,
 };
-
-#[cfg(test)]
-mod tests;

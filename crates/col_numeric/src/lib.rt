@@ -5,7 +5,5 @@
 mod arithmetic;
 mod columns;
 mod rules;
-#[cfg(test)]
-mod tests;
 
 pub use arithmetic::ArithmeticChunked;

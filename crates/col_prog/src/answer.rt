@@ -9,7 +9,7 @@ ghost use Rattle.col_expr.specs.Meaning.{step_count};
 ghost use Rattle.col_expr.specs.Refusal.{outcome};
 ghost use Rattle.col_prog.specs.Device.{Rose};
 ghost use Rattle.col_prog.specs.Reading.{Took, TookUpTo};
-ghost use Rattle.col_prog.specs.HelpText.{help_text, version_text};
+ghost use Rattle.col_prog.specs.HelpText.{help_text};
 ghost use Rattle.col_prog.specs.Answer.{reply_to, reply_to_script, reply_to_outcome, IsAnswer};
 ghost use Rattle.col_prog.specs.Answer.{value_reply, verdict_reply, plan_reply};
 ghost use Rattle.col_prog.specs.Answer.{reads_script, own_text};

@@ -6,8 +6,6 @@ mod device;
 mod reading;
 mod running;
 mod status;
-#[cfg(test)]
-mod tests;
 mod value;
 mod words;
 mod writing;

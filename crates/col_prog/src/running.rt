@@ -1,16 +1,5 @@
 // One run of the program: its words, its script, its answer.
-ghost use Rattle.std.specs.Prelude.{
-  ◌≡◌,
-  ◌≤◌,
-  ◌↔◌,
-  ◌+◌,
-  length,
-  IfOk,
-  IfSome,
-  true,
-  false,
-  None,
-};
+ghost use Rattle.std.specs.Prelude.{◌≡◌, ◌≤◌, ◌↔◌, ◌+◌, length, IfSome, true, false, None};
 ghost use Rattle.std.specs.Io.KnownBytes.{IsAtEnd, Appends};
 ghost use Rattle.col_prog.specs.Device.{Rose};
 ghost use Rattle.col_prog.specs.Reading.{Took, TookUpTo, AppendsFront};

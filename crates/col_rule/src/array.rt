@@ -1,6 +1,6 @@
 //! Columns under a rule for one word.
 
-ghost use Rattle.std.specs.Prelude.{◌≡◌, ◌+◌, ◌≤◌, ◌<◌, ◌^◌, IfOk, IfSome, Ok, length};
+ghost use Rattle.std.specs.Prelude.{◌≡◌, ◌+◌, ◌≤◌, ◌<◌, IfOk, IfSome, Ok, length};
 ghost use Rattle.col_types.specs.PolarsError.{Gives, GivesBy};
 ghost use Rattle.col_types.specs.declared.is_sorted.IsSorted.TheVariants.{Not};
 ghost use Rattle.col_model.specs.Value.{on_slot};

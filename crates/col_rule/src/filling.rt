@@ -1,6 +1,6 @@
 //! The loop over a source: values, and words of bits where something is lost.
 
-ghost use Rattle.std.specs.Prelude.{◌≡◌, ◌≢◌, ◌+◌, ◌-◌, ◌<◌, ◌≤◌, ◌∷◌, ◌++◌, [], IfOk, Some, None, true, length, take, drop};
+ghost use Rattle.std.specs.Prelude.{◌≡◌, ◌+◌, ◌-◌, ◌<◌, ◌≤◌, ◌∷◌, ◌++◌, [], IfOk, Some, None, true, length, take, drop};
 ghost use Rattle.std.specs.Option.{option_map};
 ghost use Rattle.col_buffer.specs.Validity.{Reaches, masked};
 

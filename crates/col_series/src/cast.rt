@@ -9,7 +9,7 @@ ghost use Rattle.col_model.specs.Value.{integer_slot};
 ghost use Rattle.col_model.specs.CastTable.{cast_rule, pair_rule};
 ghost use Rattle.col_model.specs.ColumnCalls.{strict_refusal};
 ghost use Rattle.col_series.specs.Slots.{cast_slots};
-ghost use Rattle.col_series.specs.TickRule.{cast_rule_of, first_lost_tick, IsDay, IsProper};
+ghost use Rattle.col_series.specs.TickRule.{cast_rule_of, IsDay, IsProper};
 
 use crate::tick_rule::{TickRule, changed_list};
 use crate::{CastOptions, DataType, PolarsError, PolarsResult, TimeUnit};

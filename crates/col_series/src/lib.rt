@@ -8,8 +8,6 @@ mod laws;
 mod series;
 mod shift;
 mod slots;
-#[cfg(test)]
-mod tests;
 mod tick_rule;
 mod unit_rule;
 

@@ -1,7 +1,7 @@
 // The texts of types.
 ghost use Rattle.std.specs.Prelude.{◌≡◌, ◌++◌, true, false, codes, string_bytes};
 ghost use Rattle.std.specs.Prelude.{OnOk, IfSome, option_map};
-ghost use Rattle.col_types.specs.DataType.{holds_integers, is_expression_type, is_temporal};
+ghost use Rattle.col_types.specs.DataType.{holds_integers, is_temporal};
 ghost use Rattle.col_types.specs.TimeUnit.{unit_name};
 ghost use Rattle.col_model.specs.Column.{is_built_type};
 ghost use Rattle.col_expr.specs.Built.{is_built_cast};

@@ -21,6 +21,3 @@ pub use col_series::Series;
 pub use col_token::{Token, Tokens, line_count};
 pub use plan::plan_text;
 pub use script::{ReadError, Script, read_script};
-
-#[cfg(test)]
-mod tests;

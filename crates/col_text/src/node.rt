@@ -1,7 +1,6 @@
 // The nodes that tokens spell.
 ghost use Rattle.std.specs.Prelude.{◌≡◌, ◌<◌, true, nat_eq, length, IfSome, option_map};
 ghost use Rattle.std.specs.List.{position};
-ghost use Rattle.col_expr.specs.Built.{is_built_cast};
 ghost use Rattle.col_text.specs.Symbols.{
   binary_symbol,
   cast_symbol,

@@ -1,6 +1,5 @@
 // Numbers and integers in decimal digits.
 ghost use Rattle.std.specs.Prelude.{◌≡◌};
-ghost use Rattle.std.specs.Option.{option_and_then};
 ghost use Rattle.col_text.specs.Numbers.{integer_of, number_of, small_integer, starts_with_sign};
 
 fn integer_in(text: &str) -> Option<i128>

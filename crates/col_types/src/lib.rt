@@ -11,8 +11,6 @@ mod nested_type;
 mod operator;
 mod small_str;
 mod supertype;
-#[cfg(test)]
-mod tests;
 mod time_unit;
 mod time_zone;
 mod type_classes;

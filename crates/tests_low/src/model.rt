@@ -1,5 +1,5 @@
 // That each call succeeds; values by hand stand as laws.
-use super::*;
+use col_model::*;
 use TimeUnit::{Microseconds, Milliseconds, Nanoseconds};
 
 #[test]

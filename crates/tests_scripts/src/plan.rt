@@ -3,7 +3,7 @@ ghost use Rattle.std.specs.Prelude.{◌≡◌, true};
 ghost use Rattle.col_model.specs.Column.{is_built_type};
 ghost use Rattle.col_expr.specs.Built.{is_built_cast};
 
-use super::*;
+use col_expr::*;
 use col_series::PlSmallStr;
 use std::alloc::Global;
 use std::test::Fail;

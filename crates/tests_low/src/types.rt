@@ -1,5 +1,5 @@
 // What no clause says: printed texts, and that each call succeeds. Values by hand stand as laws.
-use super::*;
+use col_types::*;
 use std::alloc::Global;
 use std::fmt;
 use std::process::Abort;

@@ -1,8 +1,8 @@
 // That folded expressions answer as the whole ones, and do no more work than their steps say.
 ghost use Rattle.std.specs.Prelude.{◌≡◌, ◌<◌};
 
-use super::*;
-use crate::tests::{built, cast, moments, one_input, tick, two_inputs};
+use col_expr::*;
+use crate::expr::{built, cast, moments, one_input, tick, two_inputs};
 use std::alloc::Global;
 use std::marker::Brand;
 use std::sync::ledger::{Blank, Ledger};

@@ -1,4 +1,4 @@
-use super::*;
+use col_token::*;
 
 #[test]
 fn counts_lines(rt: HostRuntime) {

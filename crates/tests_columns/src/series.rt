@@ -3,7 +3,7 @@ ghost use Rattle.std.specs.Prelude.{◌≡◌, true};
 ghost use Rattle.col_model.specs.Column.{is_built_type};
 ghost use Rattle.col_model.specs.ColumnCalls.{is_built_target};
 
-use super::*;
+use col_series::*;
 use std::alloc::Global;
 use std::test::Fail;
 

@@ -2,7 +2,7 @@
 ghost use Rattle.std.specs.Prelude.{◌≡◌, true};
 ghost use Rattle.col_model.specs.Column.{is_built_type};
 
-use super::*;
+use col_arith::*;
 use std::alloc::Global;
 use std::test::Fail;
 

@@ -1,5 +1,5 @@
 // What no clause says: that calls succeed, and what std's readers and writers do to the adapters.
-use crate::{
+use col_prog::{
     Command, Failed, MemorySink, MemorySource, ReadError, ReadSource, Sink, Source, Status,
     SureSink, SureSource, Words, WriteSink, read_all, write_all,
 };

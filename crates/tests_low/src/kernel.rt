@@ -1,7 +1,7 @@
 //! Cases by hand: that each call succeeds, and what every word does at its ends. The clauses say
 //! the rest; values of the formulas and of scales stand as laws of `col_model`.
 
-use crate::*;
+use col_kernel::*;
 use std::alloc::AllocError;
 use std::process::Abort;
 

@@ -1,4 +1,4 @@
-use Rattle.col_expr.proofs.tests.+full.Given as goal
+use Rattle.tests_scripts.proofs.expr.+full.Given as goal
 
 abbrev pub decreases-full : goal.decreases-full
 decreases-full l = l.levels

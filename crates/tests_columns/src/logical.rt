@@ -3,7 +3,7 @@
 ghost use Rattle.std.specs.Prelude.{◌≡◌};
 ghost use Rattle.col_types.specs.declared.data_type.DataType.{Date};
 
-use crate::{DateChunked, Int32Logical, Int64Logical, Logical, LogicalKind};
+use col_logical::{DateChunked, Int32Logical, Int64Logical, Logical, LogicalKind};
 use col_chunk::{ChunkedArray, Word};
 use col_types::{DataType, PlSmallStr, TimeUnit, TimeZone};
 use std::alloc::Global;

@@ -1,5 +1,5 @@
 // What no clause says: that the calls succeed, and that the definitions say what was meant.
-use super::*;
+use col_text::*;
 use std::alloc::{AllocError, Global};
 use std::test::Fail;
 

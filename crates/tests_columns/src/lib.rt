@@ -1,0 +1,11 @@
+//! Tests of columns, their casts and operators, over what these crates make public.
+#![tactic(auto)]
+
+#[cfg(test)]
+mod arith;
+#[cfg(test)]
+mod logical;
+#[cfg(test)]
+mod numeric;
+#[cfg(test)]
+mod series;

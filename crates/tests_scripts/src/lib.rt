@@ -1,0 +1,13 @@
+//! Tests of expressions, scripts and runs, over what these crates make public.
+#![tactic(auto)]
+
+#[cfg(test)]
+mod expr;
+#[cfg(test)]
+mod fold;
+#[cfg(test)]
+mod plan;
+#[cfg(test)]
+mod prog;
+#[cfg(test)]
+mod text;
