@@ -12,11 +12,11 @@ use crate::Word;
 /// A formula in one word.
 pub trait SlotFormula<T: Word> {
     /// What it gives, or null.
-    ghost formula: { ℤ → Option ℤ };
+    ghost formula: { Self → ℤ → Option ℤ };
 
     /// Its value at a word.
-    fn at(x: T) -> Option<T>
-        ensures value { option_map T.reading result ≡ formula (T.reading x) };
+    fn at(&self, x: T) -> Option<T>
+        ensures value { option_map T.reading result ≡ formula self.now (T.reading x) };
 }
 
 /// A formula in two words.
@@ -29,29 +29,62 @@ pub trait PairFormula<T: Word> {
         ensures value { option_map T.reading result ≡ formula (T.reading x) (T.reading y) };
 }
 
+/// A formula in two words, the second of which is a scalar.
+#[derive(Drop)]
+pub struct BeforeScalar<F, T> {
+    pub formula: F,
+    pub scalar: T,
+}
+
+impl<T: Word, F: PairFormula<T>> SlotFormula<T> for BeforeScalar<F, T> {
+    ghost formula = { λ formula x. F.formula x (T.reading formula.scalar) };
+
+    fn at(&self, x: T) -> Option<T> {
+        F::at(x, self.scalar)
+    }
+}
+
+/// A formula in two words, the first of which is a scalar.
+#[derive(Drop)]
+pub struct AfterScalar<F, T> {
+    pub scalar: T,
+    pub formula: F,
+}
+
+impl<T: Word, F: PairFormula<T>> SlotFormula<T> for AfterScalar<F, T> {
+    ghost formula = { λ formula. F.formula (T.reading formula.scalar) };
+
+    fn at(&self, x: T) -> Option<T> {
+        F::at(self.scalar, x)
+    }
+}
+
 /// The magnitude, wrapped.
+#[derive(Drop)]
 pub struct WrappedMagnitude;
 
 impl<T: Word> SlotFormula<T> for WrappedMagnitude {
-    ghost formula = { wrapped_abs T.word_type };
+    ghost formula = { λ formula. wrapped_abs T.word_type };
 
-    fn at(x: T) -> Option<T> {
+    fn at(&self, x: T) -> Option<T> {
         Some(T::wrap_i128(x.to_i128().wrapping_abs()))
     }
 }
 
 /// The negative, wrapped.
+#[derive(Drop)]
 pub struct WrappedNegative;
 
 impl<T: Word> SlotFormula<T> for WrappedNegative {
-    ghost formula = { wrapped_neg T.word_type };
+    ghost formula = { λ formula. wrapped_neg T.word_type };
 
-    fn at(x: T) -> Option<T> {
+    fn at(&self, x: T) -> Option<T> {
         Some(T::wrap_i128(x.to_i128().wrapping_neg()))
     }
 }
 
 /// The sum, wrapped.
+#[derive(Drop)]
 pub struct WrappedSum;
 
 impl<T: Word> PairFormula<T> for WrappedSum {
@@ -63,6 +96,7 @@ impl<T: Word> PairFormula<T> for WrappedSum {
 }
 
 /// The difference, wrapped.
+#[derive(Drop)]
 pub struct WrappedDifference;
 
 impl<T: Word> PairFormula<T> for WrappedDifference {
@@ -74,6 +108,7 @@ impl<T: Word> PairFormula<T> for WrappedDifference {
 }
 
 /// The product, wrapped.
+#[derive(Drop)]
 pub struct WrappedProduct;
 
 impl<T: Word> PairFormula<T> for WrappedProduct {
@@ -85,6 +120,7 @@ impl<T: Word> PairFormula<T> for WrappedProduct {
 }
 
 /// The quotient rounded down and wrapped.
+#[derive(Drop)]
 pub struct WrappedFloorQuotient;
 
 impl<T: Word> PairFormula<T> for WrappedFloorQuotient {
@@ -96,6 +132,7 @@ impl<T: Word> PairFormula<T> for WrappedFloorQuotient {
 }
 
 /// The quotient rounded towards zero and wrapped.
+#[derive(Drop)]
 pub struct WrappedTruncQuotient;
 
 impl<T: Word> PairFormula<T> for WrappedTruncQuotient {
@@ -107,6 +144,7 @@ impl<T: Word> PairFormula<T> for WrappedTruncQuotient {
 }
 
 /// What the quotient rounded down leaves, wrapped.
+#[derive(Drop)]
 pub struct WrappedFloorRest;
 
 impl<T: Word> PairFormula<T> for WrappedFloorRest {
@@ -118,6 +156,7 @@ impl<T: Word> PairFormula<T> for WrappedFloorRest {
 }
 
 /// The product where the word has it.
+#[derive(Drop)]
 pub struct FittingProduct;
 
 impl<T: Word> PairFormula<T> for FittingProduct {
@@ -129,6 +168,7 @@ impl<T: Word> PairFormula<T> for FittingProduct {
 }
 
 /// The quotient rounded towards zero where the word has it.
+#[derive(Drop)]
 pub struct FittingQuotient;
 
 impl<T: Word> PairFormula<T> for FittingQuotient {

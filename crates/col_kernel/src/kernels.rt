@@ -10,10 +10,11 @@ ghost use Rattle.col_kernel.specs.Slots.{zip_slots};
 
 use crate::Word;
 use crate::formulas::{
-    FittingProduct, FittingQuotient, WrappedDifference, WrappedFloorQuotient, WrappedFloorRest,
-    WrappedMagnitude, WrappedNegative, WrappedProduct, WrappedSum, WrappedTruncQuotient,
+    AfterScalar, BeforeScalar, FittingProduct, FittingQuotient, WrappedDifference,
+    WrappedFloorQuotient, WrappedFloorRest, WrappedMagnitude, WrappedNegative, WrappedProduct,
+    WrappedSum, WrappedTruncQuotient,
 };
-use crate::loops::{after_scalar, at_each_place, at_each_slot, before_scalar};
+use crate::loops::{at_each_place, at_each_slot};
 use std::alloc::{AllocError, Global};
 
 /// The magnitude of each slot, wrapped: the least value of a signed word gives itself.
@@ -24,7 +25,7 @@ pub fn wrapping_abs<T: Word>(
     ensures value { IfOk result (λ answer. slots_of T.reading answer.items
         ≡ map_slots (wrapped_abs T.word_type) (slots_of T.reading values.now)) }
 {
-    at_each_slot::<T, WrappedMagnitude>(alloc, values)
+    at_each_slot(alloc, values, &WrappedMagnitude)
 }
 
 /// The negative of each slot, wrapped.
@@ -35,7 +36,7 @@ pub fn wrapping_neg<T: Word>(
     ensures value { IfOk result (λ answer. slots_of T.reading answer.items
         ≡ map_slots (wrapped_neg T.word_type) (slots_of T.reading values.now)) }
 {
-    at_each_slot::<T, WrappedNegative>(alloc, values)
+    at_each_slot(alloc, values, &WrappedNegative)
 }
 
 /// The sum at each place, wrapped.
@@ -146,7 +147,11 @@ pub fn wrapping_add_scalar<T: Word>(
         ≡ slots_scalar (value_of (Wrap T.word_type (Sum X Y)))
         (slots_of T.reading values.now) (T.reading scalar)) }
 {
-    before_scalar::<T, WrappedSum>(alloc, values, scalar)
+    let formula = BeforeScalar {
+        formula: WrappedSum,
+        scalar,
+    };
+    at_each_slot(alloc, values, &formula)
 }
 
 /// The difference of each slot and the scalar, wrapped.
@@ -159,7 +164,11 @@ pub fn wrapping_sub_scalar<T: Word>(
         ≡ slots_scalar (value_of (Wrap T.word_type (Difference X Y)))
         (slots_of T.reading values.now) (T.reading scalar)) }
 {
-    before_scalar::<T, WrappedDifference>(alloc, values, scalar)
+    let formula = BeforeScalar {
+        formula: WrappedDifference,
+        scalar,
+    };
+    at_each_slot(alloc, values, &formula)
 }
 
 /// The product of each slot and the scalar, wrapped.
@@ -172,7 +181,11 @@ pub fn wrapping_mul_scalar<T: Word>(
         ≡ slots_scalar (value_of (Wrap T.word_type (Product X Y)))
         (slots_of T.reading values.now) (T.reading scalar)) }
 {
-    before_scalar::<T, WrappedProduct>(alloc, values, scalar)
+    let formula = BeforeScalar {
+        formula: WrappedProduct,
+        scalar,
+    };
+    at_each_slot(alloc, values, &formula)
 }
 
 /// The quotient of each slot and the scalar, rounded down and wrapped; null by 0.
@@ -185,7 +198,11 @@ pub fn wrapping_floor_div_scalar<T: Word>(
         ≡ slots_scalar (value_of (Wrap T.word_type (FloorDiv X Y)))
         (slots_of T.reading values.now) (T.reading scalar)) }
 {
-    before_scalar::<T, WrappedFloorQuotient>(alloc, values, scalar)
+    let formula = BeforeScalar {
+        formula: WrappedFloorQuotient,
+        scalar,
+    };
+    at_each_slot(alloc, values, &formula)
 }
 
 /// The quotient of each slot and the scalar, rounded towards zero and wrapped; null by 0.
@@ -198,7 +215,11 @@ pub fn wrapping_trunc_div_scalar<T: Word>(
         ≡ slots_scalar (value_of (Wrap T.word_type (TruncDiv X Y)))
         (slots_of T.reading values.now) (T.reading scalar)) }
 {
-    before_scalar::<T, WrappedTruncQuotient>(alloc, values, scalar)
+    let formula = BeforeScalar {
+        formula: WrappedTruncQuotient,
+        scalar,
+    };
+    at_each_slot(alloc, values, &formula)
 }
 
 /// The rest of the quotient rounded down of each slot and the scalar, with the sign of the
@@ -212,7 +233,11 @@ pub fn wrapping_mod_scalar<T: Word>(
         ≡ slots_scalar (value_of (Wrap T.word_type (FloorMod X Y)))
         (slots_of T.reading values.now) (T.reading scalar)) }
 {
-    before_scalar::<T, WrappedFloorRest>(alloc, values, scalar)
+    let formula = BeforeScalar {
+        formula: WrappedFloorRest,
+        scalar,
+    };
+    at_each_slot(alloc, values, &formula)
 }
 
 /// The product of each slot and the scalar, null where it leaves the word.
@@ -225,7 +250,11 @@ pub fn checked_mul_scalar<T: Word>(
         ≡ slots_scalar (value_of (Fit (word_values T.word_type) (Product X Y)))
         (slots_of T.reading values.now) (T.reading scalar)) }
 {
-    before_scalar::<T, FittingProduct>(alloc, values, scalar)
+    let formula = BeforeScalar {
+        formula: FittingProduct,
+        scalar,
+    };
+    at_each_slot(alloc, values, &formula)
 }
 
 /// The difference of the scalar and each slot, wrapped.
@@ -238,7 +267,11 @@ pub fn wrapping_sub_scalar_lhs<T: Word>(
         ≡ scalar_slots (value_of (Wrap T.word_type (Difference X Y)))
         (T.reading scalar) (slots_of T.reading values.now)) }
 {
-    after_scalar::<T, WrappedDifference>(alloc, scalar, values)
+    let formula = AfterScalar {
+        scalar,
+        formula: WrappedDifference,
+    };
+    at_each_slot(alloc, values, &formula)
 }
 
 /// The quotient of the scalar and each slot, rounded down and wrapped; null by 0.
@@ -251,7 +284,11 @@ pub fn wrapping_floor_div_scalar_lhs<T: Word>(
         ≡ scalar_slots (value_of (Wrap T.word_type (FloorDiv X Y)))
         (T.reading scalar) (slots_of T.reading values.now)) }
 {
-    after_scalar::<T, WrappedFloorQuotient>(alloc, scalar, values)
+    let formula = AfterScalar {
+        scalar,
+        formula: WrappedFloorQuotient,
+    };
+    at_each_slot(alloc, values, &formula)
 }
 
 /// The quotient of the scalar and each slot, rounded towards zero and wrapped; null by 0.
@@ -264,7 +301,11 @@ pub fn wrapping_trunc_div_scalar_lhs<T: Word>(
         ≡ scalar_slots (value_of (Wrap T.word_type (TruncDiv X Y)))
         (T.reading scalar) (slots_of T.reading values.now)) }
 {
-    after_scalar::<T, WrappedTruncQuotient>(alloc, scalar, values)
+    let formula = AfterScalar {
+        scalar,
+        formula: WrappedTruncQuotient,
+    };
+    at_each_slot(alloc, values, &formula)
 }
 
 /// The rest of the quotient rounded down of the scalar and each slot, with the sign of the
@@ -278,5 +319,9 @@ pub fn wrapping_mod_scalar_lhs<T: Word>(
         ≡ scalar_slots (value_of (Wrap T.word_type (FloorMod X Y)))
         (T.reading scalar) (slots_of T.reading values.now)) }
 {
-    after_scalar::<T, WrappedFloorRest>(alloc, scalar, values)
+    let formula = AfterScalar {
+        scalar,
+        formula: WrappedFloorRest,
+    };
+    at_each_slot(alloc, values, &formula)
 }
