@@ -62,7 +62,7 @@ impl Column {
 
 fn main() -> ExitCode {
     let args: Vec<String> = std::env::args().skip(1).collect();
-    let [call, null_step, _, rounds] = args.as_slice() else {
+    let [call, null_step, _, _, rounds] = args.as_slice() else {
         return ExitCode::from(2);
     };
     let (Ok(null_step), Ok(rounds)) = (null_step.parse::<usize>(), rounds.parse::<u32>()) else {

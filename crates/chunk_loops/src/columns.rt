@@ -42,19 +42,36 @@ fn chunk_of(alloc: Global, words: &[i64], first: usize, null_step: usize) -> Res
     Ok(column)
 }
 
-/// A column of a million words in chunks of so many rows.
-pub fn column_of(alloc: Global, null_step: u32, chunk_rows: usize) -> Result<Int64Chunked> {
-    ensure!(chunk_rows > 0, "chunks without rows");
+/// A million words.
+fn words(alloc: Global) -> Result<Vec<i64>> {
     let mut words = Vec::with_capacity(alloc, ROWS)?;
     let mut word = 1i64;
     for _ in 0..ROWS {
         word = word_after(word);
         words.push(word)?;
     }
-    let mut column = chunk_of(alloc, &[], 0, 0)?.slice(alloc, 0, 0)?;
+    Ok(words)
+}
+
+/// A column of a million words in chunks of so many rows, which are parts of one buffer, as those of a
+/// script are, or in memory of their own.
+pub fn column_of(
+    alloc: Global,
+    null_step: usize,
+    chunk_rows: usize,
+    memory: &str,
+) -> Result<Int64Chunked> {
+    ensure!(chunk_rows > 0, "chunks without rows");
+    let words = words(alloc)?;
+    let whole = chunk_of(alloc, words.as_slice(), 0, null_step)?;
+    let mut column = whole.slice(alloc, 0, 0)?;
     let mut first = 0usize;
     for words in words.as_slice().chunks(chunk_rows) {
-        column.append(&chunk_of(alloc, words, first, null_step as usize)?)?;
+        let part = match memory {
+            "shared" => whole.slice(alloc, first as i64, words.len())?,
+            _ => chunk_of(alloc, words, first, null_step)?,
+        };
+        column.append(&part)?;
         first = first.wrapping_add(chunk_rows);
     }
     Ok(column)

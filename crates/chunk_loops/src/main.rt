@@ -67,12 +67,13 @@ fn main(rt: HostRuntime) -> Result<()> {
     let mut args = env::args(&rt)?.skip(1);
     let call = args.next().context("a call")?;
     let null_step = args.next().context("how far nulls are apart")?;
-    let null_step = null_step.as_str().parse::<u32>().context("how far")?;
+    let null_step = null_step.as_str().parse::<usize>().context("how far")?;
     let chunk_rows = args.next().context("rows of a chunk")?;
     let chunk_rows = chunk_rows.as_str().parse::<usize>().context("rows")?;
+    let memory = args.next().context("shared or own memory")?;
     let rounds = args.next().context("rounds")?;
     let rounds = rounds.as_str().parse::<u32>().context("rounds")?;
-    let mut column = column_of(alloc, null_step, chunk_rows)?;
+    let mut column = column_of(alloc, null_step, chunk_rows, memory.as_str())?;
     let total = repeat(alloc, &mut column, call.as_str(), rounds)?;
     println!(rt; "{total}")?;
     Ok(())

@@ -3,8 +3,8 @@ use anyhow::Result;
 use col_chunk::{Chunk, Int64Chunked, Place, View, WordChunk};
 use std::alloc::Global;
 
-/// How many rows a run has, but for the last one.
-const RUN: usize = 64;
+/// How many rows a run has, but for the last one: those of a chunk of another column, say.
+const RUN: usize = 1_000;
 
 /// The sum by views of the chunks.
 pub fn sum_by_views(column: &Int64Chunked) -> i64 {

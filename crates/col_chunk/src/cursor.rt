@@ -1,9 +1,8 @@
 //! A walk of chunks by runs of rows, for columns whose chunks don't line up.
 
-ghost use Rattle.std.specs.Prelude.{◌≡◌, ◌≤◌, ◌++◌, IfOk, drop, length, take};
-ghost use Rattle.col_chunk.specs.Chunks.{joined, rows_from, rows_left};
+ghost use Rattle.std.specs.Prelude.{◌≡◌, ◌≤◌, ◌++◌, IfOk, OnOk, drop, length, take};
+ghost use Rattle.col_chunk.specs.Chunks.{rows_from, rows_left};
 
-use crate::array::whole;
 use crate::{ArrayOf, Chunk};
 use std::alloc::{AllocError, Global};
 
@@ -56,22 +55,53 @@ fn rows_at<C: Chunk>(
     ensures rest { IfOk result (λ answer. rows_from C.slots answer.1.chunk answer.1.skip chunks.now
         ≡ drop len (rows_from C.slots place.chunk place.skip chunks.now)) }
 {
-    let mut parts = Vec::new(alloc);
-    let next = share_from(&mut parts, chunks, place, len)?;
-    let chunk = whole(alloc, parts.as_slice(), len)?;
+    let start = first_rows(chunks, place);
+    if start.chunk < chunks.len() {
+        let chunk = &chunks[start.chunk];
+        let size = chunk.len();
+        if start.skip <= size && len <= size - start.skip {
+            let part = chunk.share(start.skip, len)?;
+            let next = Place {
+                chunk: start.chunk,
+                skip: start.skip + len,
+            };
+            return Ok((part, next));
+        }
+    }
+    let mut builder = C::builder(alloc, len)?;
+    let next = copy_from(chunks, start, len, &mut builder)?;
+    let chunk = C::build(alloc, builder)?;
     Ok((chunk, next))
 }
 
-/// Puts the chunks of so many rows from a place on behind others, in the same memory.
-fn share_from<C: Chunk>(
-    parts: &mut Vec<C>,
+/// The same place, in the first chunk that has rows from it on.
+fn first_rows<C: Chunk>(chunks: &[C], place: Place) -> Place
+    ensures same { rows_from C.slots result.chunk result.skip chunks.now
+        ≡ rows_from C.slots place.chunk place.skip chunks.now }
+{
+    let mut skip = place.skip;
+    for at in place.chunk..chunks.len() {
+        let size = chunks[at].len();
+        if skip < size {
+            return Place { chunk: at, skip };
+        }
+        skip -= size;
+    }
+    Place {
+        chunk: chunks.len(),
+        skip: 0,
+    }
+}
+
+/// Writes so many rows from a place on behind what was written.
+fn copy_from<C: Chunk>(
     chunks: &[C],
     place: Place,
     len: usize,
+    builder: &mut C::Builder,
 ) -> Result<Place, AllocError>
     requires inside { len ≤ length (rows_from C.slots place.chunk place.skip chunks.now) }
-    ensures slots { IfOk result (λ next. joined C.slots parts.new.items
-        ≡ joined C.slots parts.old.items
+    ensures slots { OnOk result (C.written builder.new ≡ C.written builder.old
         ++ take len (rows_from C.slots place.chunk place.skip chunks.now)) }
     ensures rest { IfOk result (λ next. rows_from C.slots next.chunk next.skip chunks.now
         ≡ drop len (rows_from C.slots place.chunk place.skip chunks.now)) }
@@ -87,13 +117,13 @@ fn share_from<C: Chunk>(
         }
         let room = size - skip;
         if left <= room {
-            parts.push(chunk.share(skip, left)?)?;
+            chunk.copy_onto(skip, left, builder)?;
             return Ok(Place {
                 chunk: at,
                 skip: skip + left,
             });
         }
-        parts.push(chunk.share(skip, room)?)?;
+        chunk.copy_onto(skip, room, builder)?;
         skip = 0;
         left -= room;
     }

@@ -9,7 +9,7 @@ ghost use Rattle.col_model.specs.Chunked.{column_of};
 ghost use Rattle.col_model.specs.ChunkCalls.{is_outside, named_row, slot_named, taken};
 ghost use Rattle.col_chunk.specs.Chunks.{joined, row_past, starts_of, word_slots};
 
-use crate::array::{ROW_LIMIT, of_one};
+use crate::array::{ROW_LIMIT, of_one, shared, whole};
 use crate::{ArrayOf, Chunk, IdxCa, View, WordChunk};
 use col_kernel::Word;
 use col_types::{IdxSize, IsSorted, PolarsError, PolarsResult};
@@ -17,7 +17,8 @@ use std::alloc::{AllocError, Global};
 
 impl<C: Chunk> ArrayOf<C> {
     /// The rows that indices name, null for a null one. Refused where one is past the end, with the
-    /// first such index (`OutOfBounds`). Each row's chunk is found by halving.
+    /// first such index (`OutOfBounds`). Each row's chunk is found by halving, in one
+    /// chunk of all rows where many are asked for.
     pub fn take(&self, alloc: Global, indices: &IdxCa) -> PolarsResult<Self>
         ensures column { GivesBy column_of result
             (taken indices.now.column.slots self.now.column) }
@@ -32,9 +33,10 @@ impl<C: Chunk> ArrayOf<C> {
             None => {}
         }
         let name = self.name.clone()?;
+        let chunks = chunks_for(alloc, self.chunks.as_slice(), self.len, indices.len)?;
         let chunk = gathered(
             alloc,
-            self.chunks.as_slice(),
+            chunks.as_slice(),
             indices.chunks.as_slice(),
             indices.len,
         )?;
@@ -62,7 +64,8 @@ impl<C: Chunk> ArrayOf<C> {
             return Err(PolarsError::TooLong { len: len as u64 });
         }
         let name = self.name.clone()?;
-        let chunk = gathered_one(alloc, self.chunks.as_slice(), &numbers)?;
+        let chunks = chunks_for(alloc, self.chunks.as_slice(), self.len, len)?;
+        let chunk = gathered_one(alloc, chunks.as_slice(), &numbers)?;
         of_one(alloc, name, chunk, IsSorted::Not)
     }
 }
@@ -158,6 +161,26 @@ fn outside_in<I: Indices>(indices: &I, rows: usize) -> Option<usize>
         }
     }
     None
+}
+
+/// The same chunks, or one of all rows where an eighth of the rows or more are asked for: to copy all
+/// of them once costs less then than to look for each one's chunk.
+fn chunks_for<C: Chunk>(
+    alloc: Global,
+    chunks: &[C],
+    rows: usize,
+    count: usize,
+) -> Result<Vec<C>, AllocError>
+    requires rows { rows ≡ length (joined C.slots chunks.now) }
+    ensures slots { IfOk result (λ copies. joined C.slots copies.items
+        ≡ joined C.slots chunks.now) }
+{
+    if count < rows / 8 {
+        return shared(alloc, chunks);
+    }
+    let mut all = Vec::new(alloc);
+    all.push(whole(alloc, chunks, rows)?)?;
+    Ok(all)
 }
 
 /// The slots that the indices of chunks name.

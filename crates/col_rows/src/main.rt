@@ -215,6 +215,3 @@ fn main(rt: HostRuntime) -> Result<()> {
     )?;
     Ok(())
 }
-
-#[cfg(test)]
-mod tests;

@@ -209,26 +209,45 @@ fn lengths_have_no_quotient(rt: HostRuntime) -> Result<(), Fail> {
     Ok(())
 }
 
-#[test]
-fn columns_of_two_units_are_coerced(rt: HostRuntime) -> Result<(), Fail> {
-    let alloc = rt.alloc();
+/// Seven milliseconds, and three of them in microseconds.
+fn seven_and_three_apart(alloc: Global) -> PolarsResult<(Series, Series)> {
     let seven = column(alloc, &DataType::Duration(MILLIS), &[Some(7)])?;
     let three = column(alloc, &DataType::Duration(MICROS), &[Some(3_000)])?;
+    Ok((seven, three))
+}
+
+/// The sum of both, which are brought to one type first.
+fn coerced_sum(alloc: Global, left: &Series, right: &Series) -> PolarsResult<Option<i64>> {
+    let (left, right) = coerce_lhs_rhs(alloc, left, right)?;
+    first(uncoerced_binary(alloc, BinOp::Add, &left, &right))
+}
+
+/// The difference of both, which are brought to one type first.
+fn coerced_difference(alloc: Global, left: Series, right: Series) -> PolarsResult<Option<i64>> {
+    let (left, right) = coerce_lhs_rhs_owned(alloc, left, right)?;
+    first(left.subtract(alloc, &right))
+}
+
+#[test]
+fn columns_of_two_units_are_refused(rt: HostRuntime) -> Result<(), Fail> {
+    let alloc = rt.alloc();
+    let (seven, three) = seven_and_three_apart(alloc)?;
     let refused = PolarsError::Types {
         op: OpName::Add,
         left: Kind::Duration(MILLIS),
         right: Kind::Duration(MICROS),
     };
-    assert_eq!(rt;
-        first(uncoerced_binary(alloc, BinOp::Add, &seven, &three)),
-        Err(refused)
-    );
-    let (left, right) = coerce_lhs_rhs(alloc, &seven, &three)?;
-    let sum = first(uncoerced_binary(alloc, BinOp::Add, &left, &right));
-    assert_eq!(rt; sum, Ok(Some(10)));
-    let (right, left) = coerce_lhs_rhs_owned(alloc, three, seven)?;
-    assert!(rt; right.dtype().is_same(&DataType::Duration(MILLIS)));
-    assert_eq!(rt; first(left.subtract(alloc, &right)), Ok(Some(4)));
+    let sum = first(uncoerced_binary(alloc, BinOp::Add, &seven, &three));
+    assert_eq!(rt; sum, Err(refused));
+    Ok(())
+}
+
+#[test]
+fn columns_of_two_units_are_coerced(rt: HostRuntime) -> Result<(), Fail> {
+    let alloc = rt.alloc();
+    let (seven, three) = seven_and_three_apart(alloc)?;
+    assert_eq!(rt; coerced_sum(alloc, &seven, &three), Ok(Some(10)));
+    assert_eq!(rt; coerced_difference(alloc, three, seven), Ok(Some(-4)));
     Ok(())
 }
 

@@ -3,8 +3,8 @@
 ghost use Rattle.std.specs.Prelude.{◌≡◌};
 ghost use Rattle.col_types.specs.declared.data_type.DataType.{Date};
 
-use col_logical::{DateChunked, Int32Logical, Int64Logical, Logical, LogicalKind};
 use col_chunk::{ChunkedArray, Word};
+use col_logical::{DateChunked, Int32Logical, Int64Logical, Logical, LogicalKind};
 use col_types::{DataType, PlSmallStr, TimeUnit, TimeZone};
 use std::alloc::Global;
 use std::process::Abort;

@@ -1,8 +1,8 @@
 //! Cases by hand: that each call succeeds and which word it gives. The clauses say the rest.
 
-use col_numeric::ArithmeticChunked;
 use col_chunk::{ChunkedArray, Int32Chunked};
 use col_kernel::Word;
+use col_numeric::ArithmeticChunked;
 use col_types::{PlSmallStr, PolarsError, PolarsResult};
 use std::alloc::Global;
 use std::process::Abort;

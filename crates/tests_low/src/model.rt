@@ -1,6 +1,6 @@
 // That each call succeeds; values by hand stand as laws.
-use col_model::*;
 use TimeUnit::{Microseconds, Milliseconds, Nanoseconds};
+use col_model::*;
 
 #[test]
 fn ticks_in_other_units(rt: HostRuntime) {

@@ -148,65 +148,148 @@ fn the_deepest_expression_is_evaluated(rt: HostRuntime) -> Result<(), Fail> {
     }
 }
 
-#[test]
-fn each_node_has_its_column(rt: HostRuntime) -> Result<(), Fail> {
-    let alloc = rt.alloc();
+// Three moments, one of them null, and three lengths of time.
+fn operands(alloc: Global) -> Result<Inputs, Fail> {
     let lengths = [Some(2), Some(3), Some(4)];
-    let inputs = two_inputs(alloc, &[Some(5), None, Some(-7)], &lengths)?;
-    let sum = Expr::binary(alloc, BinOp::Add, Expr::input(0), Expr::input(1));
-    shows(alloc, &inputs, sum, &[Some(7), None, Some(-3)])?;
-    let half = Expr::scalar_right(alloc, Expr::input(0), ScalarOp::TruncDiv, 2);
-    shows(alloc, &inputs, half, &[Some(2), None, Some(-3)])?;
-    let rest = Expr::scalar_left(alloc, 10, BinOp::Sub, Expr::input(0));
-    shows(alloc, &inputs, rest, &[Some(5), None, Some(17)])?;
-    let down = Expr::shift(alloc, Expr::input(0), 1);
-    shows(alloc, &inputs, down, &[None, Some(5), None])?;
-    let finer = built(Expr::unit(alloc, Expr::input(0), TimeUnit::Microseconds))?;
-    let less = UnaryOp::ScalarRight(ScalarOp::Sub, 1);
-    let less = built(Expr::unary(alloc, less, finer))?;
-    let coarser = moments(TimeUnit::Milliseconds);
-    let coarser = Expr::cast(alloc, less, coarser, CastOptions::NonStrict);
-    shows(alloc, &inputs, coarser, &[Some(4), None, Some(-8)])
+    two_inputs(alloc, &[Some(5), None, Some(-7)], &lengths)
 }
 
 #[test]
-fn two_operands_are_tested_in_order(rt: HostRuntime) -> Result<(), Fail> {
+fn a_sum_has_its_column(rt: HostRuntime) -> Result<(), Fail> {
     let alloc = rt.alloc();
-    let inputs = two_inputs(alloc, &[Some(5), None, Some(-7)], &[Some(2), Some(3)])?;
+    let sum = Expr::binary(alloc, BinOp::Add, Expr::input(0), Expr::input(1));
+    shows(alloc, &operands(alloc)?, sum, &[Some(7), None, Some(-3)])
+}
+
+#[test]
+fn a_number_on_the_right_has_its_column(rt: HostRuntime) -> Result<(), Fail> {
+    let alloc = rt.alloc();
+    let half = Expr::scalar_right(alloc, Expr::input(0), ScalarOp::TruncDiv, 2);
+    shows(alloc, &operands(alloc)?, half, &[Some(2), None, Some(-3)])
+}
+
+#[test]
+fn a_number_on_the_left_has_its_column(rt: HostRuntime) -> Result<(), Fail> {
+    let alloc = rt.alloc();
+    let rest = Expr::scalar_left(alloc, 10, BinOp::Sub, Expr::input(0));
+    shows(alloc, &operands(alloc)?, rest, &[Some(5), None, Some(17)])
+}
+
+#[test]
+fn a_shift_has_its_column(rt: HostRuntime) -> Result<(), Fail> {
+    let alloc = rt.alloc();
+    let down = Expr::shift(alloc, Expr::input(0), 1);
+    shows(alloc, &operands(alloc)?, down, &[None, Some(5), None])
+}
+
+// One less, counted in microseconds.
+fn one_less(alloc: Global) -> Result<Expr, Fail> {
+    let finer = built(Expr::unit(alloc, Expr::input(0), TimeUnit::Microseconds))?;
+    let less = UnaryOp::ScalarRight(ScalarOp::Sub, 1);
+    built(Expr::unary(alloc, less, finer))
+}
+
+#[test]
+fn units_have_their_columns(rt: HostRuntime) -> Result<(), Fail> {
+    let alloc = rt.alloc();
+    let coarser = moments(TimeUnit::Milliseconds);
+    let coarser = Expr::cast(alloc, one_less(alloc)?, coarser, CastOptions::NonStrict);
+    shows(
+        alloc,
+        &operands(alloc)?,
+        coarser,
+        &[Some(4), None, Some(-8)],
+    )
+}
+
+// Three moments and two lengths of time.
+fn unequal_operands(alloc: Global) -> Result<Inputs, Fail> {
+    two_inputs(alloc, &[Some(5), None, Some(-7)], &[Some(2), Some(3)])
+}
+
+#[test]
+fn lengths_come_before_types(rt: HostRuntime) -> Result<(), Fail> {
+    let alloc = rt.alloc();
     let apart = Expr::binary(alloc, BinOp::Mul, Expr::input(0), Expr::input(1));
     let lengths = EvalError::Lengths {
         node: 2,
         left: 3,
         right: 2,
     };
-    refuses(alloc, &inputs, apart, lengths)?;
+    refuses(alloc, &unequal_operands(alloc)?, apart, lengths)
+}
+
+#[test]
+fn types_without_an_operator_are_refused(rt: HostRuntime) -> Result<(), Fail> {
+    let alloc = rt.alloc();
     let unlisted = Expr::binary(alloc, BinOp::Mul, Expr::input(0), Expr::input(0));
-    refuses(alloc, &inputs, unlisted, EvalError::Unsupported { node: 2 })?;
+    let unsupported = EvalError::Unsupported { node: 2 };
+    refuses(alloc, &unequal_operands(alloc)?, unlisted, unsupported)
+}
+
+#[test]
+fn the_left_operand_comes_first(rt: HostRuntime) -> Result<(), Fail> {
+    let alloc = rt.alloc();
     let both = Expr::binary(alloc, BinOp::Mul, Expr::input(7), Expr::input(8));
     let left = EvalError::NoColumn {
         node: 0,
         index: 7,
         count: 2,
     };
-    refuses(alloc, &inputs, both, left)
+    refuses(alloc, &unequal_operands(alloc)?, both, left)
+}
+
+// A null and a moment.
+fn one_operand(alloc: Global) -> Result<Inputs, Fail> {
+    one_input(alloc, TimeUnit::Milliseconds, &[None, Some(5)])
 }
 
 #[test]
-fn one_operand_is_tested_in_order(rt: HostRuntime) -> Result<(), Fail> {
+fn a_number_past_the_word_is_refused(rt: HostRuntime) -> Result<(), Fail> {
     let alloc = rt.alloc();
-    let inputs = one_input(alloc, TimeUnit::Milliseconds, &[None, Some(5)])?;
     let too_large = Expr::scalar_right(alloc, Expr::input(0), ScalarOp::Add, 1 << 63);
-    refuses(alloc, &inputs, too_large, EvalError::Scalar { node: 1 })?;
+    let scalar = EvalError::Scalar { node: 1 };
+    refuses(alloc, &one_operand(alloc)?, too_large, scalar)
+}
+
+#[test]
+fn a_type_that_no_column_has_is_refused(rt: HostRuntime) -> Result<(), Fail> {
+    let alloc = rt.alloc();
     let text = Expr::cast(alloc, Expr::input(0), DataType::String, CastOptions::Strict);
-    refuses(alloc, &inputs, text, EvalError::BadType { node: 1 })?;
-    let late = Expr::scalar_right(alloc, Expr::input(0), ScalarOp::Add, 1 << 62);
+    refuses(
+        alloc,
+        &one_operand(alloc)?,
+        text,
+        EvalError::BadType { node: 1 },
+    )
+}
+
+#[test]
+fn a_lost_slot_is_refused(rt: HostRuntime) -> Result<(), Fail> {
+    let alloc = rt.alloc();
+    let late = built(Expr::scalar_right(alloc, Expr::input(0), ScalarOp::Add, 1 << 62))?;
     let finer = moments(TimeUnit::Microseconds);
-    let lossy = Expr::cast(alloc, built(late)?, finer, CastOptions::Strict);
-    refuses(alloc, &inputs, lossy, EvalError::Strict { node: 2, row: 1 })?;
+    let lossy = Expr::cast(alloc, late, finer, CastOptions::Strict);
+    refuses(
+        alloc,
+        &one_operand(alloc)?,
+        lossy,
+        EvalError::Strict { node: 2, row: 1 },
+    )
+}
+
+#[test]
+fn the_refused_node_is_the_first(rt: HostRuntime) -> Result<(), Fail> {
+    let alloc = rt.alloc();
     let length = DataType::Duration(TimeUnit::Milliseconds);
     let unlisted = Expr::cast(alloc, Expr::input(0), length, CastOptions::NonStrict);
     let past_it = Expr::shift(alloc, built(unlisted)?, 1);
-    refuses(alloc, &inputs, past_it, EvalError::Unsupported { node: 1 })
+    refuses(
+        alloc,
+        &one_operand(alloc)?,
+        past_it,
+        EvalError::Unsupported { node: 1 },
+    )
 }
 
 // The full tree of so many levels.

@@ -10,4 +10,6 @@ mod plan;
 #[cfg(test)]
 mod prog;
 #[cfg(test)]
+mod runs;
+#[cfg(test)]
 mod text;

@@ -1,7 +1,7 @@
 use Rattle.std.proofs.Common.{◌≤◌, ◌∷◌, [], length, lit≤}
 use Rattle.std.specs.Prelude.{codes}
 use Rattle.col_prog.specs.Answer.{answer_of}
-use Rattle.col_rows.proofs.tests.check_in_room.Goals as goal
+use Rattle.tests_scripts.proofs.runs.check_in_room.Goals as goal
 
 -- the verdict on a script of one cast is short
 short : length (answer_of (codes "check" ∷ [])

@@ -2,9 +2,9 @@ use Rattle.std.proofs.Common.{arith, ap, sym, ◌∙◌, ◌++◌, ◌+◌, ◌-
 use Rattle.std.proofs.lemmas.List.{append_assoc, drop-append-le, take_all, length-append}
 use Rattle.col_model.specs.Value.{Value}
 use Rattle.col_chunk.specs.Chunks.{joined}
-use Rattle.col_chunk.proofs.Pieces.{pieces-from, joined-push}
+use Rattle.col_chunk.proofs.Pieces.{pieces-from}
 use Rattle.col_chunk.proofs.CursorLaws.{drop-past, take-past}
-use Rattle.col_chunk.proofs.cursor.share_from.Goals as goal
+use Rattle.col_chunk.proofs.cursor.copy_from.Goals as goal
 
 pub loop-at-preserved-then-skip-size : goal.loop-at-preserved-then-skip-size
 loop-at-preserved-then-skip-size g c =
@@ -18,7 +18,7 @@ loop-at-preserved-then-skip-size g c =
     ap (drop skip) (pieces-from slots c.args.chunks.now at chunk c.loop-at-test.true c.index-chunks-at.is) ∙ drop-past (slots chunk) rest skip (omega (arith, c.if-skip-size.true, c.len-size.ensures.len)) in
     rw c.len-size.ensures.len (record {
       room = omega (arith, ap length e, c.loop-at.invariant.room);
-      slots = sym (ap (λ (xs : List (Option Value)). joined slots c.loop-at.parts.items ++ take left xs) e) ∙ c.loop-at.invariant.slots;
+      slots = sym (ap (λ (xs : List (Option Value)). g.C.Chunk.written c.loop-at.builder ++ take left xs) e) ∙ c.loop-at.invariant.slots;
       rest = sym (ap (drop left) e) ∙ c.loop-at.invariant.rest;
     })
 
@@ -37,11 +37,11 @@ loop-at-preserved g c =
     let same : left - length tail ≡ left - (length (slots chunk) - skip) = omega (arith, long) in
     let all : take (length (slots chunk) - skip) tail ≡ tail = take_all (length (slots chunk) - skip) tail (omega (arith, long)) in
     let past : length tail ≤ left = omega (arith, long, c.if-left-room.false, c.len-size.ensures.len) in
-    rw (c.in_ok-push-2.ensures.items, joined-push, c.in_ok-share-2.ensures.slots, c.len-size.ensures.len) (record {
+    rw (c.in_ok-copy_onto-2.ensures.slots, c.len-size.ensures.len) (record {
       room = omega (arith, ap length e, length-append tail rest, long, c.loop-at.invariant.room, c.if-left-room.false, c.len-size.ensures.len);
-      slots = ap (λ (xs : List (Option Value)). (joined slots c.loop-at.parts.items ++ xs) ++ take (left - (length (slots chunk) - skip)) rest) all
-          ∙ append_assoc (joined slots c.loop-at.parts.items) tail (take (left - (length (slots chunk) - skip)) rest)
-          ∙ ap (λ (xs : List (Option Value)). joined slots c.loop-at.parts.items ++ xs) (ap (λ (n : _). tail ++ take n rest) (sym same) ∙ sym (take-past tail rest left past) ∙ ap (take left) (sym e))
+      slots = ap (λ (xs : List (Option Value)). (g.C.Chunk.written c.loop-at.builder ++ xs) ++ take (left - (length (slots chunk) - skip)) rest) all
+          ∙ append_assoc (g.C.Chunk.written c.loop-at.builder) tail (take (left - (length (slots chunk) - skip)) rest)
+          ∙ ap (λ (xs : List (Option Value)). g.C.Chunk.written c.loop-at.builder ++ xs) (ap (λ (n : _). tail ++ take n rest) (sym same) ∙ sym (take-past tail rest left past) ∙ ap (take left) (sym e))
           ∙ c.loop-at.invariant.slots;
       rest = ap (λ (n : _). drop n rest) (sym same) ∙ sym (drop-past tail rest left past) ∙ ap (drop left) (sym e) ∙ c.loop-at.invariant.rest;
     })

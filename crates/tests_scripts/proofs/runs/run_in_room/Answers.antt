@@ -5,7 +5,7 @@ use Rattle.col_prog.specs.declared.words.Command.{Command}
 use Rattle.col_prog.specs.declared.words.Command.TheVariants.{Eval, Fold, Autofold, Check, Plan, Help, Version}
 use Rattle.col_prog.specs.Words.{command_of}
 use Rattle.col_prog.specs.Answer.{answer_of, reply_to}
-use Rattle.col_rows.proofs.tests.run_in_room.Goals as goal
+use Rattle.tests_scripts.proofs.runs.run_in_room.Goals as goal
 
 -- whatever is asked of a script of one line feed, the answer is short
 short : (command : Option Command) → length (reply_to command (10 ∷ [])).text ≤ 2000

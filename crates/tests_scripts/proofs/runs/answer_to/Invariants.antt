@@ -1,4 +1,4 @@
-use Rattle.col_rows.proofs.tests.answer_to.Given as goal
+use Rattle.tests_scripts.proofs.runs.answer_to.Given as goal
 
 abbrev pub ghosts-run_counted : goal.ghosts-run_counted
 ghosts-run_counted a = record { name = a.blank.name; parts = a.blank.parts }

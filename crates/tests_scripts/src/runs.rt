@@ -1,9 +1,9 @@
 // Runs that no list of rows can show: devices that fail, long scripts, deep expressions.
-ghost use Rattle.std.specs.Prelude.{◌≡◌, ◌<◌, ◌∷◌, [], codes, IfOk};
+ghost use Rattle.std.specs.Prelude.{◌≡◌, ◌<◌, ◌∷◌, [], None, codes, IfOk};
 
-use super::{run_counted, words_of};
 use col_prog::{
-    MemorySink, MemorySource, PlSmallStr, Status, Steps, SureSink, SureSource, Words, run,
+    MemorySink, MemorySource, PlSmallStr, Sink, Source, Status, Steps, SureSink, SureSource, Words,
+    run,
 };
 use std::alloc::{AllocError, Global};
 use std::marker::Brand;
@@ -11,6 +11,29 @@ use std::sync::ledger::{Blank, Ledger};
 use std::test::Fail;
 
 const ROUNDING: &str = "col a datetime[ns] -1 | null 1999999\nexpr $0 cast:datetime[ms]\n";
+
+/// The words of a command of one word.
+fn words_of(alloc: Global, word: &str) -> Result<Words, Fail> {
+    let mut words = Words::new(alloc);
+    words.push(PlSmallStr::from_str(alloc, word)?)?;
+    Ok(words)
+}
+
+/// One run, with a fresh count of steps.
+fn run_counted<S: Source, K: Sink, L: Ledger>(
+    alloc: Global,
+    words: &Words,
+    source: &mut S,
+    sink: &mut K,
+    blank: Blank,
+) -> Status
+    requires name { blank.name ≡ L.name }
+    requires parts { blank.parts ≡ L.parts }
+    requires open { 0 < blank.parts }
+    requires room { K.room sink.old ≡ None }
+{
+    run(alloc, words, source, sink, &mut Steps::<L>::new(blank))
+}
 
 /// The answer to a script where these calls of the devices fail.
 fn answer_to(

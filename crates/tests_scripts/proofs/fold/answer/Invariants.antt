@@ -1,4 +1,4 @@
-use Rattle.col_expr.proofs.fold_tests.answer.Given as goal
+use Rattle.tests_scripts.proofs.fold.answer.Given as goal
 
 abbrev pub ghosts-counted : goal.ghosts-counted
 ghosts-counted a = record { name = a.blank.name; parts = a.blank.parts }
