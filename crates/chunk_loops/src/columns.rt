@@ -68,7 +68,10 @@ pub fn column_of(
     let mut first = 0usize;
     for words in words.as_slice().chunks(chunk_rows) {
         let part = match memory {
-            "shared" => whole.slice(alloc, first as i64, words.len())?,
+            "shared" => {
+                let offset = i64::try_from(first).unwrap_or(i64::MAX);
+                whole.slice(alloc, offset, words.len())?
+            }
             _ => chunk_of(alloc, words, first, null_step)?,
         };
         column.append(&part)?;

@@ -1,15 +1,17 @@
 //! What lies in a column: the buffers of a chunk of words, and the chunks of an array.
 
-ghost use Rattle.std.specs.Prelude.{◌≡◌, ◌+◌, ◌<◌, ◌≤◌, ◌^◌, length};
+ghost use Rattle.std.specs.Prelude.{◌≡◌, ◌+◌, ◌<◌, ◌≤◌, ◌^◌, IfOk, length};
 ghost use Rattle.std.specs.Option.{option_map};
 ghost use Rattle.col_types.specs.declared.is_sorted.IsSorted.TheVariants.{Not};
 ghost use Rattle.col_buffer.specs.Validity.{Reaches, masked};
 ghost use Rattle.col_chunk.specs.Chunks.{joined, lengths_of};
 
+use crate::array::whole;
 use crate::{ArrayOf, Chunk, WordChunk};
 use col_buffer::{bits_of, part};
 use col_kernel::Word;
 use col_types::{IsSorted, PlSmallStr};
+use std::alloc::{AllocError, Global};
 
 impl<T: Word> WordChunk<T> {
     /// The values, any word standing for a null, the words of validity, or none where each slot is
@@ -38,6 +40,13 @@ impl<C: Chunk> ArrayOf<C> {
         ensures lengths { lengths_of C.slots result.now ≡ self.now.chunk_lengths }
     {
         self.chunks.as_slice()
+    }
+
+    /// All rows in one chunk, in the same memory where they are in one.
+    pub fn to_chunk(&self, alloc: Global) -> Result<C, AllocError>
+        ensures slots { IfOk result (λ chunk. C.slots chunk ≡ self.now.column.slots) }
+    {
+        whole(alloc, self.chunks.as_slice(), self.len)
     }
 
     /// A column of these chunks, with so many rows and no claim on their order.

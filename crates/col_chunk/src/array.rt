@@ -146,6 +146,7 @@ impl<C: Chunk> ArrayOf<C> {
         ensures short { length self.now.column.slots < 2 ^ 32 }
         ensures fit { list_all C.is_slot self.now.column.slots ≡ true }
         ensures sorted { is_flag_true self.now.column.flag self.now.column.slots ≡ true }
+        ensures unmarked { self.now.column.flag ≡ Not }
     {
         all_known(self.chunks.as_slice());
         let _ = &self.flag;

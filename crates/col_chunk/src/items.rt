@@ -10,8 +10,7 @@ ghost use Rattle.col_model.specs.Words.{word_dtype};
 ghost use Rattle.col_chunk.specs.Items.{StopsAtLimit, option_slots};
 
 use crate::array::ROW_LIMIT;
-use crate::word_chunk::push_slot;
-use crate::{ArrayOf, Chunk, WordBuilder, WordChunk};
+use crate::{ArrayOf, Chunk, WordChunk};
 use col_kernel::Word;
 use col_types::{PlSmallStr, PolarsError, PolarsResult};
 use std::alloc::{AllocError, Global};
@@ -56,21 +55,8 @@ fn read_items<T: Word, I: Iterator<Item = Option<T>>>(
         if count == ROW_LIMIT {
             return Err(PolarsError::TooLong { len: count as u64 });
         }
-        push_item(&mut builder, item)?;
+        builder.push(item)?;
     }
     let chunk = WordChunk::build(alloc, builder)?;
     Ok(chunk)
-}
-
-/// Writes one slot behind those that were written.
-fn push_item<T: Word>(builder: &mut WordBuilder<T>, item: Option<T>) -> Result<(), AllocError>
-    ensures slots { OnOk result (builder.new
-        ≡ builder.old ++ option_map (λ word. whole (T.reading word)) item ∷ []) }
-{
-    let values = &mut builder.values;
-    let validity = &mut builder.validity;
-    match item {
-        Some(word) => push_slot(values, validity, word, true),
-        None => push_slot(values, validity, T::wrap_i128(0), false),
-    }
 }

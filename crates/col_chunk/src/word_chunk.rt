@@ -64,6 +64,21 @@ impl<T: Word> Model for WordBuilder<T> {
         (length b.values.items) };
 }
 
+impl<T: Word> WordBuilder<T> {
+    /// Writes one slot behind those that were written.
+    pub fn push(&mut self, slot: Option<T>) -> Result<(), AllocError>
+        ensures slots { OnOk result (self.new
+            ≡ self.old ++ option_map (λ x. whole (T.reading x)) slot ∷ []) }
+    {
+        let values = &mut self.values;
+        let validity = &mut self.validity;
+        match slot {
+            Some(word) => push_slot(values, validity, word, true),
+            None => push_slot(values, validity, T::wrap_i128(0), false),
+        }
+    }
+}
+
 impl<T: Word> Chunk for WordChunk<T> {
     type Builder = WordBuilder<T>;
 

@@ -3,6 +3,7 @@
 ghost use Rattle.std.specs.Prelude.{◌≡◌, ◌<◌, ◌^◌, true, None, Ok, Some, length, slice_index_or};
 ghost use Rattle.std.specs.Option.{option_map};
 ghost use Rattle.col_types.specs.PolarsError.{Becomes, Gives};
+ghost use Rattle.col_types.specs.declared.is_sorted.IsSorted.TheVariants.{Not};
 ghost use Rattle.col_model.specs.Value.{whole};
 ghost use Rattle.col_model.specs.Column.{IsValidColumn, is_built_type, physical_word};
 ghost use Rattle.col_model.specs.ChunkCalls.{null_count, renamed};
@@ -140,6 +141,7 @@ impl<K: LogicalKind, T: Word> Logical<K, T> {
         ensures valid { IsValidColumn self.now.column }
         ensures kind { K.is_type self.now.column.dtype ≡ true }
         ensures stored { physical_word self.now.column.dtype ≡ Some T.word_type }
+        ensures unmarked { self.now.column.flag ≡ Not }
     {
         self.phys.known();
         let _ = &self.dtype;
