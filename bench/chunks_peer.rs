@@ -3,8 +3,6 @@
 
 use std::process::ExitCode;
 
-const ROWS: usize = 1_000_000;
-
 /// Words, and a bit for each that is set where it is valid.
 struct Column {
     words: Vec<i64>,
@@ -13,9 +11,9 @@ struct Column {
 
 impl Column {
     /// A column where each row that the step divides is null, unless the step is 0.
-    fn new(null_step: usize) -> Column {
+    fn new(rows: usize, null_step: usize) -> Column {
         let mut word = 1i64;
-        let words = (0..ROWS)
+        let words = (0..rows)
             .map(|_| {
                 word = word
                     .wrapping_mul(6_364_136_223_846_793_005)
@@ -24,8 +22,8 @@ impl Column {
             })
             .collect();
         let valid = (null_step > 0).then(|| {
-            let mut bits = vec![u64::MAX; ROWS.div_ceil(64)];
-            for row in (0..ROWS).step_by(null_step) {
+            let mut bits = vec![u64::MAX; rows.div_ceil(64)];
+            for row in (0..rows).step_by(null_step) {
                 bits[row / 64] &= !(1 << (row % 64));
             }
             bits
@@ -62,13 +60,14 @@ impl Column {
 
 fn main() -> ExitCode {
     let args: Vec<String> = std::env::args().skip(1).collect();
-    let [call, null_step, _, _, rounds] = args.as_slice() else {
+    let [call, null_step, rows, _, _, rounds] = args.as_slice() else {
         return ExitCode::from(2);
     };
-    let (Ok(null_step), Ok(rounds)) = (null_step.parse::<usize>(), rounds.parse::<u32>()) else {
+    let numbers = (null_step.parse::<usize>(), rows.parse::<usize>(), rounds.parse::<u32>());
+    let (Ok(null_step), Ok(rows), Ok(rounds)) = numbers else {
         return ExitCode::from(2);
     };
-    let mut column = Column::new(null_step);
+    let mut column = Column::new(rows, null_step);
     let mut total = 0i64;
     for round in 0..rounds {
         column.words[(round % 8) as usize + 1] = i64::from(round);

@@ -12,6 +12,7 @@ import resource
 import subprocess
 import sys
 
+# Rows of the columns that are compared with the peer.
 ROWS = 1_000_000
 
 # How far nulls are apart (0: none), and the most time that is wanted, in the peer's.
@@ -20,11 +21,12 @@ NULLS = ((0, 1.3), (16, 2.0))
 # A call, and how many rounds over a million slots it is run.
 REDUCTIONS = (("sum", 600), ("product", 600), ("min", 600), ("max", 600))
 
-# The same for calls that are made on one chunk and on many, of ten rows each, and the most time that
-# is wanted on many, in that on one. It is wanted of chunks that are parts of one buffer, as those of
-# a script are; what chunks in memory of their own take is told beside it.
-MANY = 10
-CALLS = (("sum", 600), ("reverse", 60), ("take", 20), ("views", 200), ("runs", 60))
+# The same for calls that are made on one chunk and on 100,000, of as many slots as the script `short`
+# has, and the most time that is wanted on many, in that on one. It is wanted of chunks that are parts
+# of one buffer, as those of a script are; what chunks in memory of their own take is told beside it.
+MANY_ROWS = 4_000_000
+MANY = 40
+CALLS = (("sum", 200), ("reverse", 20), ("take", 5), ("views", 60), ("runs", 40))
 MOST_ON_MANY = 2.0
 
 
@@ -59,8 +61,8 @@ def is_met(text, times, most):
     return times <= most
 
 
-def command(program, call, null_step, chunk_rows, memory, rounds):
-    return [program, call, str(null_step), str(chunk_rows), memory, rounds]
+def command(program, call, null_step, rows, chunk_rows, memory, rounds):
+    return [program, call, str(null_step), str(rows), str(chunk_rows), memory, rounds]
 
 
 def are_like_peer(program, peer, runs):
@@ -68,7 +70,7 @@ def are_like_peer(program, peer, runs):
     met = []
     for null_step, most in NULLS:
         for call, rounds in REDUCTIONS:
-            pair = [command(who, call, null_step, ROWS, "shared", rounds) for who in (program, peer)]
+            pair = [command(who, call, null_step, ROWS, ROWS, "shared", rounds) for who in (program, peer)]
             nulls = f"one null in {null_step}" if null_step else "no nulls"
             met.append(is_met(f"{call}, {nulls}, times its peer", ratio(*pair, runs), most))
     return met
@@ -78,9 +80,11 @@ def are_like_one(program, runs):
     """Whether calls on many chunks take little longer than on one."""
     met = []
     for call, rounds in CALLS:
-        one = command(program, call, 0, ROWS, "shared", rounds)
-        parts, own = (command(program, call, 0, MANY, memory, rounds) for memory in ("shared", "own"))
-        text = f"{call}, {ROWS // MANY:,} parts of one buffer, times one chunk"
+        one = command(program, call, 0, MANY_ROWS, MANY_ROWS, "shared", rounds)
+        parts, own = (
+            command(program, call, 0, MANY_ROWS, MANY, memory, rounds) for memory in ("shared", "own")
+        )
+        text = f"{call}, {MANY_ROWS // MANY:,} parts of one buffer, times one chunk"
         met.append(is_met(text, ratio(parts, one, runs), MOST_ON_MANY))
         print(f"{call}, as many in memory of their own: {ratio(own, one, runs):.2f}", flush=True)
     return met

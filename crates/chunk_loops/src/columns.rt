@@ -4,9 +4,6 @@ use col_chunk::{IdxCa, Int64Chunked};
 use col_types::{PlSmallStr, PolarsError, PolarsResult};
 use std::alloc::Global;
 
-/// How many rows the columns have.
-const ROWS: usize = 1_000_000;
-
 /// A word that looks random, from the one before it.
 fn word_after(word: i64) -> i64 {
     word.wrapping_mul(6_364_136_223_846_793_005)
@@ -42,27 +39,28 @@ fn chunk_of(alloc: Global, words: &[i64], first: usize, null_step: usize) -> Res
     Ok(column)
 }
 
-/// A million words.
-fn words(alloc: Global) -> Result<Vec<i64>> {
-    let mut words = Vec::with_capacity(alloc, ROWS)?;
+/// So many words.
+fn words(alloc: Global, rows: usize) -> Result<Vec<i64>> {
+    let mut words = Vec::with_capacity(alloc, rows)?;
     let mut word = 1i64;
-    for _ in 0..ROWS {
+    for _ in 0..rows {
         word = word_after(word);
         words.push(word)?;
     }
     Ok(words)
 }
 
-/// A column of a million words in chunks of so many rows, which are parts of one buffer, as those of a
+/// A column of so many words in chunks of so many rows, which are parts of one buffer, as those of a
 /// script are, or in memory of their own.
 pub fn column_of(
     alloc: Global,
+    rows: usize,
     null_step: usize,
     chunk_rows: usize,
     memory: &str,
 ) -> Result<Int64Chunked> {
     ensure!(chunk_rows > 0, "chunks without rows");
-    let words = words(alloc)?;
+    let words = words(alloc, rows)?;
     let whole = chunk_of(alloc, words.as_slice(), 0, null_step)?;
     let mut column = whole.slice(alloc, 0, 0)?;
     let mut first = 0usize;
@@ -81,15 +79,17 @@ pub fn column_of(
 }
 
 /// Each row of the column once, far apart.
-pub fn scattered_rows(alloc: Global) -> Result<IdxCa> {
-    let mut rows = Vec::with_capacity(alloc, ROWS)?;
-    for at in 0..ROWS {
-        rows.push(row_at(at))?;
+pub fn scattered_rows(alloc: Global, rows: usize) -> Result<IdxCa> {
+    let mut scattered = Vec::with_capacity(alloc, rows)?;
+    for at in 0..rows {
+        scattered.push(row_at(at, rows))?;
     }
-    Ok(IdxCa::from_vec(alloc, PlSmallStr::from_str(alloc, "rows")?, rows)?)
+    Ok(IdxCa::from_vec(alloc, PlSmallStr::from_str(alloc, "rows")?, scattered)?)
 }
 
-/// The row at a place of scattered ones: 7,919 and a million have no divisor in common.
-fn row_at(at: usize) -> u32 {
-    (at.wrapping_mul(7_919) % ROWS) as u32
+/// The row at a place of scattered ones: 7,919 is prime, so no row comes twice unless it divides their
+/// number.
+fn row_at(at: usize, rows: usize) -> u32 {
+    let row = at.wrapping_mul(7_919).checked_rem(rows).unwrap_or(0);
+    u32::try_from(row).unwrap_or(0)
 }

@@ -1,4 +1,4 @@
-//! Makes one call of a column of a million words, many times over, and prints what its answers come to,
+//! Makes one call of a column of words, many times over, and prints what its answers come to,
 //! so that `bench/` can time it.
 #![tactic(auto)]
 
@@ -51,29 +51,38 @@ fn answer_of(alloc: Global, column: &Int64Chunked, call: &str, indices: &IdxCa) 
     }
 }
 
+/// The word that a round writes.
+fn round_word(round: usize) -> i64 {
+    i64::try_from(round).unwrap_or(0)
+}
+
 /// What the call answers in so many rounds, each with another word in one of the first rows.
-fn repeat(alloc: Global, column: &mut Int64Chunked, call: &str, rounds: u32) -> Result<i64> {
-    let indices = scattered_rows(alloc)?;
+fn repeat(alloc: Global, column: &mut Int64Chunked, call: &str, rounds: usize) -> Result<i64> {
+    let indices = scattered_rows(alloc, column.len())?;
     let mut total = 0i64;
     for round in 0..rounds {
-        set_word(column, (round % 8) as usize + 1, i64::from(round))?;
+        set_word(column, round % 8 + 1, round_word(round))?;
         total = mixed(total, answer_of(alloc, column, call, &indices)?);
     }
     Ok(total)
+}
+
+/// The number that a word of the command line spells.
+fn number(word: Option<String>, what: &'static str) -> Result<usize> {
+    let word = word.context(what)?;
+    word.as_str().parse::<usize>().context(what)
 }
 
 fn main(rt: HostRuntime) -> Result<()> {
     let alloc = rt.alloc();
     let mut args = env::args(&rt)?.skip(1);
     let call = args.next().context("a call")?;
-    let null_step = args.next().context("how far nulls are apart")?;
-    let null_step = null_step.as_str().parse::<usize>().context("how far")?;
-    let chunk_rows = args.next().context("rows of a chunk")?;
-    let chunk_rows = chunk_rows.as_str().parse::<usize>().context("rows")?;
+    let null_step = number(args.next(), "how far nulls are apart")?;
+    let rows = number(args.next(), "rows")?;
+    let chunk_rows = number(args.next(), "rows of a chunk")?;
     let memory = args.next().context("shared or own memory")?;
-    let rounds = args.next().context("rounds")?;
-    let rounds = rounds.as_str().parse::<u32>().context("rounds")?;
-    let mut column = column_of(alloc, null_step, chunk_rows, memory.as_str())?;
+    let rounds = number(args.next(), "rounds")?;
+    let mut column = column_of(alloc, rows, null_step, chunk_rows, memory.as_str())?;
     let total = repeat(alloc, &mut column, call.as_str(), rounds)?;
     println!(rt; "{total}")?;
     Ok(())

@@ -121,9 +121,7 @@ impl<T: Word> Chunk for WordChunk<T> {
         if self.len == self.values.capacity() {
             return self.share(0, self.len());
         }
-        let mut builder = Self::builder(alloc, self.len)?;
-        self.copy_onto(0, self.len(), &mut builder)?;
-        Self::build(alloc, builder)
+        self.copied(alloc)
     }
 
     fn nulls(alloc: Global, len: usize) -> Result<Self, AllocError> {
@@ -204,11 +202,32 @@ impl<T: Word> SetChunk for WordChunk<T> {
     ghost slot_of = { λ slot. option_map (λ x. whole (T.reading x)) slot };
 
     fn set(&mut self, alloc: Global, index: usize, slot: Option<T>) -> Result<(), AllocError> {
+        if self.is_small_part() {
+            let mut own = self.copied(alloc)?;
+            own.set_slot(alloc, index, slot)?;
+            *self = own;
+            return Ok(());
+        }
         self.set_slot(alloc, index, slot)
     }
 }
 
 impl<T: Word> WordChunk<T> {
+    /// Whether somebody else has the values, and there are more of them than the slots: a copy of the
+    /// part then takes less memory than one of all of them.
+    fn is_small_part(&self) -> bool {
+        Rc::strong_count(&self.values) > 1 && self.len < self.values.len()
+    }
+
+    /// The same slots in buffers of their own.
+    fn copied(&self, alloc: Global) -> Result<Self, AllocError>
+        ensures slots { IfOk result (λ chunk. chunk ≡ self.now) }
+    {
+        let mut builder = Self::builder(alloc, self.len)?;
+        self.copy_onto(0, self.len(), &mut builder)?;
+        Self::build(alloc, builder)
+    }
+
     /// Writes a slot, in place where nobody else has the buffers.
     fn set_slot(&mut self, alloc: Global, index: usize, slot: Option<T>) -> Result<(), AllocError>
         requires inside { index < length self.old }
