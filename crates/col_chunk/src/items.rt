@@ -1,11 +1,9 @@
 //! Columns of words that an iterator gives.
 
-ghost use Rattle.std.specs.Prelude.{◌≡◌, ◌∷◌, ◌++◌, [], IfErr, OnOk, length};
+ghost use Rattle.std.specs.Prelude.{IfErr, length};
 ghost use Rattle.std.specs.Iterator.{IsFinite};
-ghost use Rattle.std.specs.Option.{option_map};
 ghost use Rattle.col_model.specs.ChunkCalls.{new_column, unless_too_long};
 ghost use Rattle.col_model.specs.Items.{AnswersItems};
-ghost use Rattle.col_model.specs.Value.{whole};
 ghost use Rattle.col_model.specs.Words.{word_dtype};
 ghost use Rattle.col_chunk.specs.Items.{StopsAtLimit, option_slots};
 

@@ -1,7 +1,8 @@
 -- Laws of rules over chunks.
 use Rattle.std.specs.Prelude.{◌≡◌, ◌+◌, ◌<◌, ◌&&◌, ℕ, zero, suc, ℤ, Bool, true, false, List, [], ◌∷◌, ◌++◌, Option, Some, None, IfSome, length, drop, is_some, is_none, if◌then◌else◌}
 use Rattle.std.proofs.Common.{refl, ap, sym, ◌∙◌, arith, get_or}
-use Rattle.std.proofs.lemmas.List.{drop_more, append_assoc, map-append}
+use Rattle.std.proofs.lemmas.List.{drop_more, append_assoc, append-nil, map-append, take_all}
+use Rattle.std.proofs.Math.Seq.{take-add}
 use Rattle.col_model.specs.Value.{Value, on_slot}
 use Rattle.col_model.specs.ColumnCalls.{first_lost}
 use Rattle.col_chunk.specs.Chunks.{joined, lengths_of}
@@ -25,17 +26,33 @@ joined-more [] chunk = append-none chunk
 joined-more (c ∷ chunks) chunk = ap (λ (xs : List (Option Value)). c ++ xs) (joined-more chunks chunk) ∙ sym (append_assoc c (joined (λ c. c) chunks) chunk)
 
 -- a loop's step over the chunks
-pub slots-step : (f : ℤ → Option ℤ) (chunks done new : List (List (Option Value))) (i : ℕ) (chunk part : List (Option Value))
-    → i < length chunks → chunk ≡ get_or chunks i chunk → part ≡ mapped f chunk → new ≡ done ++ part ∷ []
-    → joined (λ c. c) done ++ mapped f (joined (λ c. c) (drop i chunks)) ≡ mapped f (joined (λ c. c) chunks)
-    → joined (λ c. c) new ++ mapped f (joined (λ c. c) (drop (i + 1) chunks)) ≡ mapped f (joined (λ c. c) chunks)
+pub slots-step : (f : ℤ → Option ℤ) (chunks : List (List (Option Value))) (done new : List (Option Value)) (i : ℕ) (chunk part : List (Option Value))
+    → i < length chunks → chunk ≡ get_or chunks i chunk → part ≡ mapped f chunk → new ≡ done ++ part
+    → done ++ mapped f (joined (λ c. c) (drop i chunks)) ≡ mapped f (joined (λ c. c) chunks)
+    → new ++ mapped f (joined (λ c. c) (drop (i + 1) chunks)) ≡ mapped f (joined (λ c. c) chunks)
 slots-step f chunks done new i chunk part inside is e made whole_is =
     let rest : List (Option Value) = joined (λ c. c) (drop (i + 1) chunks) in
-    ap (λ (cs : List (List (Option Value))). joined (λ c. c) cs ++ mapped f rest) made
-    ∙ ap (λ (xs : List (Option Value)). xs ++ mapped f rest) (joined-more done part ∙ ap (λ (xs : List (Option Value)). joined (λ c. c) done ++ xs) e)
-    ∙ append_assoc (joined (λ c. c) done) (mapped f chunk) (mapped f rest)
-    ∙ ap (λ (xs : List (Option Value)). joined (λ c. c) done ++ xs) (sym (map-append (on_slot f) chunk rest) ∙ ap (mapped f) (sym (more_chunks chunks i chunk inside is)))
+    ap (λ (xs : List (Option Value)). xs ++ mapped f rest) (made ∙ ap (λ (xs : List (Option Value)). done ++ xs) e)
+    ∙ append_assoc done (mapped f chunk) (mapped f rest)
+    ∙ ap (λ (xs : List (Option Value)). done ++ xs) (sym (map-append (on_slot f) chunk rest) ∙ ap (mapped f) (sym (more_chunks chunks i chunk inside is)))
     ∙ whole_is
+
+-- a loop's step over the parts of a chunk
+pub parts-step : (whole : List (Option Value)) (done new : List (List (Option Value))) (start len : ℕ) (part : List (Option Value))
+    → part ≡ take len (drop start whole) → new ≡ done ++ part ∷ [] → joined (λ c. c) done ≡ take start whole
+    → joined (λ c. c) new ≡ take (start + len) whole
+parts-step whole done new start len part is made so_far =
+    ap (joined (λ c. c)) made ∙ joined-more done part
+    ∙ ap (λ (xs : List (Option Value)). xs ++ part) so_far
+    ∙ ap (λ (xs : List (Option Value)). take start whole ++ xs) is
+    ∙ sym (take-add start len whole)
+
+-- one chunk alone, and all of it
+pub one_chunk : (chunk : List (Option Value)) → joined (λ c. c) (chunk ∷ []) ≡ chunk
+one_chunk chunk = append-nil chunk
+
+pub all_taken : (chunk : List (Option Value)) → take (length chunk) (drop 0 chunk) ≡ chunk
+all_taken chunk = let all : length chunk ≤ length chunk = omega arith in take_all (length chunk) chunk all
 
 pub lengths-step : (chunks done new : List (List (Option Value))) (i : ℕ) (chunk part : List (Option Value))
     → i < length chunks → chunk ≡ get_or chunks i chunk → length part ≡ length chunk → new ≡ done ++ part ∷ []
@@ -125,17 +142,16 @@ take-past (x ∷ piece) rest zero h = absurd (omega arith)
 take-past (x ∷ piece) rest (suc left) h = let is : left - length piece ≡ suc left - suc (length piece) = omega arith in ap (λ (xs : List _). x ∷ xs) (take-past piece rest left (omega arith) ∙ ap (λ (n : ℕ). piece ++ take n rest) is)
 
 -- a loop's step over the chunks of the left column
-pub meet-step : (f : ℤ → ℤ → Option ℤ) (chunks done new : List (List (Option Value))) (i : ℕ) (chunk part other now next whole : List (Option Value))
-    → i < length chunks → chunk ≡ get_or chunks i chunk → part ≡ paired f chunk other → other ≡ take (length chunk) now → next ≡ drop (length chunk) now → new ≡ done ++ part ∷ []
-    → joined (λ c. c) done ++ paired f (joined (λ c. c) (drop i chunks)) now ≡ whole
-    → joined (λ c. c) new ++ paired f (joined (λ c. c) (drop (i + 1) chunks)) next ≡ whole
+pub meet-step : (f : ℤ → ℤ → Option ℤ) (chunks : List (List (Option Value))) (done new : List (Option Value)) (i : ℕ) (chunk part other now next whole : List (Option Value))
+    → i < length chunks → chunk ≡ get_or chunks i chunk → part ≡ paired f chunk other → other ≡ take (length chunk) now → next ≡ drop (length chunk) now → new ≡ done ++ part
+    → done ++ paired f (joined (λ c. c) (drop i chunks)) now ≡ whole
+    → new ++ paired f (joined (λ c. c) (drop (i + 1) chunks)) next ≡ whole
 meet-step f chunks done new i chunk part other now next whole inside is e here behind made whole_is =
     let rest : List (Option Value) = joined (λ c. c) (drop (i + 1) chunks) in
-    ap (λ (cs : List (List (Option Value))). joined (λ c. c) cs ++ paired f rest next) made
-    ∙ ap (λ (xs : List (Option Value)). xs ++ paired f rest next) (joined-more done part ∙ ap (λ (xs : List (Option Value)). joined (λ c. c) done ++ xs) (e ∙ ap (paired f chunk) here))
-    ∙ ap (λ (ys : List (Option Value)). (joined (λ c. c) done ++ paired f chunk (take (length chunk) now)) ++ paired f rest ys) behind
-    ∙ append_assoc (joined (λ c. c) done) (paired f chunk (take (length chunk) now)) (paired f rest (drop (length chunk) now))
-    ∙ ap (λ (xs : List (Option Value)). joined (λ c. c) done ++ xs) (sym (paired-append f chunk rest now) ∙ ap (λ (xs : List (Option Value)). paired f xs now) (sym (more_chunks chunks i chunk inside is)))
+    ap (λ (xs : List (Option Value)). xs ++ paired f rest next) (made ∙ ap (λ (xs : List (Option Value)). done ++ xs) (e ∙ ap (paired f chunk) here))
+    ∙ ap (λ (ys : List (Option Value)). (done ++ paired f chunk (take (length chunk) now)) ++ paired f rest ys) behind
+    ∙ append_assoc done (paired f chunk (take (length chunk) now)) (paired f rest (drop (length chunk) now))
+    ∙ ap (λ (xs : List (Option Value)). done ++ xs) (sym (paired-append f chunk rest now) ∙ ap (λ (xs : List (Option Value)). paired f xs now) (sym (more_chunks chunks i chunk inside is)))
     ∙ whole_is
 
 pub ruleset array_laws = (lost-end, lost-inside)

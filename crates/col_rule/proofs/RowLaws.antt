@@ -24,6 +24,10 @@ length-paired f [] ys h = refl
 length-paired f (x ∷ xs) [] h = absurd (omega arith)
 length-paired f (x ∷ xs) (y ∷ ys) h = ap suc (length-paired f xs ys (omega arith))
 
+-- the same under a name that code can cite
+pub paired_long : (f : ℤ → ℤ → Option ℤ) (xs ys : List (Option Value)) → length xs ≡ length ys → length (paired f xs ys) ≡ length xs
+paired_long = length-paired
+
 -- two lists in two parts
 pub paired-append : (f : ℤ → ℤ → Option ℤ) (xs more ys : List (Option Value)) → paired f (xs ++ more) ys ≡ paired f xs (take (length xs) ys) ++ paired f more (drop (length xs) ys)
 paired-append f [] more ys = refl

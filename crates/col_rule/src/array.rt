@@ -1,6 +1,6 @@
 //! Columns under a rule for one word.
 
-ghost use Rattle.std.specs.Prelude.{◌≡◌, ◌+◌, ◌≤◌, ◌<◌, IfOk, IfSome, Ok, length};
+ghost use Rattle.std.specs.Prelude.{◌≡◌, ◌+◌, ◌≤◌, ◌<◌, ◌++◌, IfOk, IfSome, OnOk, Ok, length};
 ghost use Rattle.col_types.specs.PolarsError.{Gives, GivesBy};
 ghost use Rattle.col_types.specs.declared.is_sorted.IsSorted.TheVariants.{Not};
 ghost use Rattle.col_model.specs.Value.{on_slot};
@@ -12,7 +12,7 @@ ghost use Rattle.col_rule.specs.Columns.{mapped_chunks};
 
 use crate::chunk::change;
 use crate::rule::SlotRule;
-use col_chunk::{ArrayOf, Chunk, ChunkedArray, WordChunk};
+use col_chunk::{ArrayOf, Chunk, ChunkedArray, WordBuilder, WordChunk};
 use col_kernel::Word;
 use col_types::{PlSmallStr, PolarsResult};
 use std::alloc::{AllocError, Global};
@@ -74,38 +74,94 @@ pub(crate) fn change_named<T: Word, U: Word, R: SlotRule<T, U>>(
         ≡ first_lost (on_slot (R.kept rule.now)) 0 array.now.column.slots) }
 {
     let len = array.len();
-    let (chunks, lost) = change_chunks(alloc, rule, array.chunks(), len)?;
+    let (whole, lost) = change_all(alloc, rule, array.chunks(), len)?;
+    let chunks = cut_like(alloc, &whole, array.chunks())?;
     let array = ArrayOf::from_chunks(name, chunks, len);
     Ok(ChangedArray { array, lost })
 }
 
-/// The rule at each row of chunks.
+/// The rule at each row of chunks, in one buffer.
+#[tactic(auto, using(crate::proofs::ArrayLaws::one_chunk))]
+fn change_all<T: Word, U: Word, R: SlotRule<T, U>>(
+    alloc: Global,
+    rule: &R,
+    chunks: &[WordChunk<T>],
+    len: usize,
+) -> Result<(WordChunk<U>, Option<usize>), AllocError>
+    requires len { length (joined (λ chunk. chunk) chunks.now) ≡ len }
+    ensures slots { IfOk result (λ changed. changed.0
+        ≡ mapped (R.value rule.now) (joined (λ chunk. chunk) chunks.now)) }
+    ensures lost { IfOk result (λ changed. changed.1
+        ≡ first_lost (on_slot (R.kept rule.now)) 0 (joined (λ chunk. chunk) chunks.now)) }
+{
+    match chunks {
+        [chunk] => {
+            let changed = change(alloc, rule, chunk)?;
+            Ok((changed.chunk, changed.lost))
+        }
+        _ => change_chunks(alloc, rule, chunks, len),
+    }
+}
+
+/// The rule at each row of several chunks, in one buffer.
 #[tactic(auto, using(crate::proofs::ArrayLaws::array_laws))]
 fn change_chunks<T: Word, U: Word, R: SlotRule<T, U>>(
     alloc: Global,
     rule: &R,
     chunks: &[WordChunk<T>],
     len: usize,
-) -> Result<(Vec<WordChunk<U>>, Option<usize>), AllocError>
+) -> Result<(WordChunk<U>, Option<usize>), AllocError>
     requires len { length (joined (λ chunk. chunk) chunks.now) ≡ len }
-    ensures slots { IfOk result (λ changed. joined (λ chunk. chunk) changed.0.items
+    ensures slots { IfOk result (λ changed. changed.0
         ≡ mapped (R.value rule.now) (joined (λ chunk. chunk) chunks.now)) }
-    ensures lengths { IfOk result (λ changed. lengths_of (λ chunk. chunk) changed.0.items
-        ≡ lengths_of (λ chunk. chunk) chunks.now) }
     ensures lost { IfOk result (λ changed. changed.1
         ≡ first_lost (on_slot (R.kept rule.now)) 0 (joined (λ chunk. chunk) chunks.now)) }
 {
-    let mut answer = Vec::with_capacity(alloc, chunks.len())?;
+    let mut builder = WordChunk::builder(alloc, len)?;
     let mut lost = None;
     let mut start = 0;
     for chunk in chunks {
         let len = chunk.len();
         let changed = change(alloc, rule, chunk)?;
         lost = or_later(lost, start, changed.lost, len);
-        answer.push(changed.chunk)?;
+        copy_all(&changed.chunk, &mut builder)?;
         start += len;
     }
-    Ok((answer, lost))
+    let whole = WordChunk::build(alloc, builder)?;
+    Ok((whole, lost))
+}
+
+/// Writes all slots of a chunk behind what was written.
+#[tactic(auto, using(crate::proofs::ArrayLaws::all_taken))]
+pub(crate) fn copy_all<U: Word>(
+    chunk: &WordChunk<U>,
+    builder: &mut WordBuilder<U>,
+) -> Result<(), AllocError>
+    ensures slots { OnOk result (builder.new ≡ builder.old ++ chunk.now) }
+{
+    chunk.copy_onto(0, chunk.len(), builder)
+}
+
+/// Parts of a chunk that are as long as other chunks, one after another, in the same memory.
+fn cut_like<T: Word, U: Word>(
+    alloc: Global,
+    whole: &WordChunk<U>,
+    like: &[WordChunk<T>],
+) -> Result<Vec<WordChunk<U>>, AllocError>
+    requires len { length whole.now ≡ length (joined (λ chunk. chunk) like.now) }
+    ensures slots { IfOk result (λ parts. joined (λ chunk. chunk) parts.items ≡ whole.now) }
+    ensures lengths { IfOk result (λ parts. lengths_of (λ chunk. chunk) parts.items
+        ≡ lengths_of (λ chunk. chunk) like.now) }
+{
+    let rows = whole.len();
+    let mut parts = Vec::with_capacity(alloc, like.len())?;
+    let mut start = 0;
+    for chunk in like {
+        let len = chunk.len();
+        parts.push(whole.share(start, len)?)?;
+        start += len;
+    }
+    Ok(parts)
 }
 
 /// A row that is known, or else one of the next so many rows.

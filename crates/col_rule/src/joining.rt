@@ -9,7 +9,7 @@ ghost use Rattle.col_chunk.specs.Chunks.{joined};
 ghost use Rattle.col_rule.specs.Rules.{paired};
 ghost use Rattle.col_rule.specs.Columns.{paired_column};
 
-use crate::array::change_named;
+use crate::array::{change_named, copy_all};
 use crate::chunk::meet;
 use crate::rule::{PairRule, WithLeft, WithRight};
 use col_chunk::{ArrayOf, Chunk, ChunkedArray, Place, WordChunk};
@@ -47,7 +47,7 @@ pub fn meet_arrays<T: Word, U: Word, V: Word, R: PairRule<T, U, V>>(
 }
 
 /// The rule at each row of two columns of one length.
-#[tactic(auto, using(crate::proofs::RowLaws::equal_rows))]
+#[tactic(auto, using(crate::proofs::RowLaws::equal_rows, crate::proofs::RowLaws::paired_long, crate::proofs::ArrayLaws::one_chunk))]
 fn meet_rows<T: Word, U: Word, V: Word, R: PairRule<T, U, V>>(
     alloc: Global,
     rule: &R,
@@ -60,7 +60,8 @@ fn meet_rows<T: Word, U: Word, V: Word, R: PairRule<T, U, V>>(
 {
     let len = left.len();
     let name = left.name().clone()?;
-    let chunks = meet_chunks(alloc, rule, left.chunks(), right)?;
+    let mut chunks = Vec::new(alloc);
+    chunks.push(meet_all(alloc, rule, left.chunks(), right)?)?;
     Ok(ArrayOf::from_chunks(name, chunks, len))
 }
 
@@ -125,26 +126,49 @@ fn null_rows<V: Word>(
     Ok(ArrayOf::from_chunks(name, chunks, rows))
 }
 
-/// The rule at each row. The answer has the left chunks.
+/// The rule at each row, in one buffer.
+#[tactic(auto, using(crate::proofs::ArrayLaws::one_chunk))]
+fn meet_all<T: Word, U: Word, V: Word, R: PairRule<T, U, V>>(
+    alloc: Global,
+    rule: &R,
+    left: &[WordChunk<T>],
+    right: &ChunkedArray<U>,
+) -> Result<WordChunk<V>, AllocError>
+    requires equal_lengths { length (joined (λ chunk. chunk) left.now)
+        ≡ length right.now.column.slots }
+    ensures slots { IfOk result (λ answer. answer
+        ≡ paired (R.value rule.now) (joined (λ chunk. chunk) left.now) right.now.column.slots) }
+{
+    match left {
+        [chunk] => {
+            let other = right.to_chunk(alloc)?;
+            meet(alloc, rule, chunk, &other)
+        }
+        _ => meet_chunks(alloc, rule, left, right),
+    }
+}
+
+/// The rule at each row of several chunks, in one buffer.
 fn meet_chunks<T: Word, U: Word, V: Word, R: PairRule<T, U, V>>(
     alloc: Global,
     rule: &R,
     left: &[WordChunk<T>],
     right: &ChunkedArray<U>,
-) -> Result<Vec<WordChunk<V>>, AllocError>
+) -> Result<WordChunk<V>, AllocError>
     requires equal_lengths { length (joined (λ chunk. chunk) left.now)
         ≡ length right.now.column.slots }
-    ensures slots { IfOk result (λ answer. joined (λ chunk. chunk) answer.items
+    ensures slots { IfOk result (λ answer. answer
         ≡ paired (R.value rule.now) (joined (λ chunk. chunk) left.now) right.now.column.slots) }
-    ensures len { IfOk result (λ answer. length (joined (λ chunk. chunk) answer.items)
-        ≡ length (joined (λ chunk. chunk) left.now)) }
 {
-    let mut answer = Vec::with_capacity(alloc, left.len())?;
+    let rows = right.len();
+    let mut builder = WordChunk::builder(alloc, rows)?;
     let mut place = Place::start();
     for chunk in left {
-        let (other, next) = right.next_rows(alloc, place, chunk.len())?;
-        answer.push(meet(alloc, rule, chunk, &other)?)?;
+        let len = chunk.len();
+        let (other, next) = right.next_rows(alloc, place, len)?;
+        copy_all(&meet(alloc, rule, chunk, &other)?, &mut builder)?;
         place = next;
     }
-    Ok(answer)
+    let whole = WordChunk::build(alloc, builder)?;
+    Ok(whole)
 }

@@ -1,8 +1,8 @@
-use Rattle.std.proofs.Common.{arith, ap, ◌∙◌, ◌+◌, length, drop}
-use Rattle.std.proofs.lemmas.List.{length-append, length-map}
+use Rattle.std.proofs.Common.{arith, ap, ◌+◌, length, drop}
+use Rattle.std.proofs.lemmas.List.{length-append}
 use Rattle.col_model.specs.Value.{on_slot}
 use Rattle.col_chunk.specs.Chunks.{joined}
-use Rattle.col_rule.proofs.ArrayLaws.{more_chunks, slots-step, lengths-step, lost-step, lost-within}
+use Rattle.col_rule.proofs.ArrayLaws.{more_chunks, slots-step, lost-step, lost-within}
 use Rattle.col_rule.proofs.array.change_chunks.Goals as goal
 
 pub or_later-lost-requires-clause-inside : goal.or_later-lost-requires-clause-inside
@@ -19,8 +19,7 @@ loop-chunk-preserved g c =
     let more = more_chunks chunks i chunk inside c.chunk-item.is in
     let part = c.in_ok-changed.ensures.slots in
     record {
-      slots = slots-step value chunks c.loop-chunk.answer.items _ i chunk _ inside c.chunk-item.is part c.in_ok-push.ensures.items c.loop-chunk.invariant.slots;
-      lengths = lengths-step chunks c.loop-chunk.answer.items _ i chunk _ inside c.chunk-item.is (ap length part ∙ length-map chunk (on_slot value)) c.in_ok-push.ensures.items c.loop-chunk.invariant.lengths;
+      slots = slots-step value chunks c.loop-chunk.builder _ i chunk _ inside c.chunk-item.is part c.in_ok-copy_all.ensures.slots c.loop-chunk.invariant.slots;
       lost = rw (c.or_later-lost.ensures.row, c.in_ok-changed.ensures.lost, c.len-len.ensures.len) (lost-step (on_slot (g.R.SlotRule.kept c.args.rule.now)) chunks i c.loop-chunk.start chunk c.loop-chunk.lost inside c.chunk-item.is c.loop-chunk.invariant.lost);
       start = omega (arith, c.len-len.ensures.len, ap length more, length-append chunk (joined (λ c. c) (drop (i + 1) chunks)), c.loop-chunk.invariant.start);
     }

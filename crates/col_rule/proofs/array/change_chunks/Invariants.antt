@@ -1,7 +1,7 @@
 use Rattle.std.proofs.Common.{◌≡◌, ◌++◌, ◌+◌, drop, length}
 use Rattle.col_model.specs.Value.{on_slot}
 use Rattle.col_model.specs.ColumnCalls.{first_lost}
-use Rattle.col_chunk.specs.Chunks.{joined, lengths_of}
+use Rattle.col_chunk.specs.Chunks.{joined}
 use Rattle.col_rule.specs.Rules.{mapped}
 use Rattle.col_rule.specs.Rules.{or_later}
 use Rattle.col_rule.proofs.array.change_chunks.Given as goal
@@ -13,8 +13,7 @@ invariant-loop-chunk g l =
     let kept = on_slot (g.R.SlotRule.kept l.rule) in
     let left = joined (λ chunk. chunk) (drop l.chunk-index l.chunks) in
     record {
-      slots : joined (λ chunk. chunk) l.answer.items ++ mapped value left ≡ mapped value (joined (λ chunk. chunk) l.chunks);
-      lengths : lengths_of (λ chunk. chunk) l.answer.items ++ lengths_of (λ chunk. chunk) (drop l.chunk-index l.chunks) ≡ lengths_of (λ chunk. chunk) l.chunks;
+      slots : l.builder ++ mapped value left ≡ mapped value (joined (λ chunk. chunk) l.chunks);
       lost : or_later l.lost l.start (first_lost kept 0 left) ≡ first_lost kept 0 (joined (λ chunk. chunk) l.chunks);
       start : l.start + length left ≡ l.len;
     }

@@ -1,4 +1,4 @@
-use Rattle.std.proofs.Common.{◌≡◌, ◌++◌, ◌+◌, drop, length}
+use Rattle.std.proofs.Common.{◌≡◌, ◌++◌, drop, length}
 use Rattle.col_chunk.specs.Chunks.{joined, rows_left}
 use Rattle.col_rule.specs.Rules.{paired}
 use Rattle.col_rule.proofs.joining.meet_chunks.Given as goal
@@ -11,7 +11,6 @@ invariant-loop-chunk g l =
     let right = rows_left l.place.chunk l.place.skip l.right in
     record {
       room : length left ≡ length right;
-      len : length (joined (λ chunk. chunk) l.answer.items) + length left ≡ length (joined (λ chunk. chunk) l.left);
-      slots : joined (λ chunk. chunk) l.answer.items ++ paired value left right
+      slots : l.builder ++ paired value left right
           ≡ paired value (joined (λ chunk. chunk) l.left) l.right.column.slots;
     }
