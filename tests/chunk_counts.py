@@ -156,6 +156,7 @@ def shared(count):
     for _ in range(3 * 4_000 + 1):
         count.case()
         slots(count, 4)
+    slots(count, 3 * 4_000)  # around the write to each slice
 
 
 def in_place(count):

@@ -61,7 +61,13 @@ fn periods_of(at: u32) -> i64 {
     i64::from(at % 33).wrapping_sub(16)
 }
 
-/// 4,000 slices, shifted columns and clones of one column, each of them read once all are there.
+/// What is written to each slice, and where.
+const WRITTEN: Option<i64> = Some(-7);
+
+const WRITTEN_ROW: usize = 1;
+
+/// 4,000 slices, shifted columns and clones of one column, each of them read once all are there. Then
+/// each slice is written: as many copies of the whole column would not fit into memory.
 pub fn check_parts(alloc: Global) -> Result<Tally> {
     let mut tally = Tally::new();
     let column = long_column(alloc)?;
@@ -74,6 +80,10 @@ pub fn check_parts(alloc: Global) -> Result<Tally> {
         clones.push(column.try_clone(alloc)?)?;
     }
     check_slices(slices.as_slice(), &mut tally);
+    for at in 0..slices.len() {
+        slices[at].set_slot(WRITTEN_ROW, WRITTEN)?;
+    }
+    check_written(slices.as_slice(), &mut tally);
     check_moved(moved.as_slice(), &mut tally);
     check_clones(clones.as_slice(), &mut tally);
     check_clones(&[column], &mut tally);
@@ -93,6 +103,17 @@ fn check_slices(slices: &[Int64Column], tally: &mut Tally) {
                 slot_of(first.wrapping_add(row)),
             );
         }
+        at = at.wrapping_add(1);
+    }
+}
+
+fn check_written(slices: &[Int64Column], tally: &mut Tally) {
+    let mut at = 0u32;
+    for slice in slices {
+        let first = first_of(at);
+        tally.expect_slot("set_slot", slice, 0, slot_of(first));
+        tally.expect_slot("set_slot", slice, WRITTEN_ROW, WRITTEN);
+        tally.expect_slot("set_slot", slice, 2, slot_of(first.wrapping_add(2)));
         at = at.wrapping_add(1);
     }
 }

@@ -4,10 +4,12 @@
 
 ghost use Rattle.std.specs.Prelude.{◌≡◌, ◌<◌, None};
 
+mod cut;
 mod row;
 
 use anyhow::Result;
 use col_prog::{MemorySink, PlSmallStr, Sink, Source, Status, Steps, SureSource, Words, run};
+use cut::{Cut, cut_script, most_slots};
 use row::{Row, rows_of};
 use std::alloc::Global;
 use std::io;
@@ -196,6 +198,34 @@ fn is_folded(rt: &HostRuntime, runs: &mut usize, row: &Row) -> Result<bool> {
     )
 }
 
+/// Whether the row's script answers alike with its columns cut.
+fn is_alike_cut(rt: &HostRuntime, runs: &mut usize, row: &Row, cut: Cut) -> Result<bool> {
+    let script = cut_script(rt.alloc(), row.script.as_str(), cut)?;
+    let mut run = run_of(row, "eval", "");
+    run.script = script.as_str();
+    is_answered_in_turn(rt, runs, &run)
+}
+
+/// Whether chunks change no answer: those of a cut at each place where a column has two slots or more,
+/// and of one row each. The end of a chunk makes no bad line good, so a bad script is left out.
+fn is_answered_cut(rt: &HostRuntime, runs: &mut usize, row: &Row) -> Result<bool> {
+    let slots = most_slots(row.script.as_str());
+    if slots < 2 || row.status.as_str() == "bad script" {
+        return Ok(true);
+    }
+    for place in 0..slots - 1 {
+        if !is_alike_cut(rt, runs, row, Cut::Behind(place))? {
+            return Ok(false);
+        }
+    }
+    is_alike_cut(rt, runs, row, Cut::Everywhere)
+}
+
+/// Whether a row of `eval` is answered alike by folding, and in chunks.
+fn is_evaluated_alike(rt: &HostRuntime, runs: &mut usize, row: &Row) -> Result<bool> {
+    Ok(is_folded(rt, runs, row)? && is_answered_cut(rt, runs, row)?)
+}
+
 fn main(rt: HostRuntime) -> Result<()> {
     let alloc = rt.alloc();
     let list = io::read_to_string(alloc, rt.reader())?;
@@ -205,7 +235,7 @@ fn main(rt: HostRuntime) -> Result<()> {
         if !is_met(&rt, &mut runs, row)? {
             return Ok(());
         }
-        if row.words.as_str() == "eval" && !is_folded(&rt, &mut runs, row)? {
+        if row.words.as_str() == "eval" && !is_evaluated_alike(&rt, &mut runs, row)? {
             return Ok(());
         }
     }
