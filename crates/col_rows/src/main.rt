@@ -87,6 +87,18 @@ fn run_of<'a>(row: &'a Row, words: &'a str, plan: &'a str) -> Run<'a> {
     }
 }
 
+/// The row of `eval` by a script that is the row's but for the ends of chunks.
+fn cut_run_of<'a>(row: &'a Row, script: &'a str) -> Run<'a> {
+    Run {
+        title: row.title.as_str(),
+        words: "eval",
+        plan: "",
+        script,
+        status: row.status.as_str(),
+        answer: row.answer.as_str(),
+    }
+}
+
 /// The check of a plan for the row's script.
 fn check_of<'a>(row: &'a Row, plan: &'a str, answer: &'a str) -> Run<'a> {
     Run {
@@ -201,9 +213,7 @@ fn is_folded(rt: &HostRuntime, runs: &mut usize, row: &Row) -> Result<bool> {
 /// Whether the row's script answers alike with its columns cut.
 fn is_alike_cut(rt: &HostRuntime, runs: &mut usize, row: &Row, cut: Cut) -> Result<bool> {
     let script = cut_script(rt.alloc(), row.script.as_str(), cut)?;
-    let mut run = run_of(row, "eval", "");
-    run.script = script.as_str();
-    is_answered_in_turn(rt, runs, &run)
+    is_answered_in_turn(rt, runs, &cut_run_of(row, script.as_str()))
 }
 
 /// Whether chunks change no answer: those of a cut at each place where a column has two slots or more,
