@@ -4,6 +4,8 @@
 #[cfg(test)]
 mod arith;
 #[cfg(test)]
+mod boolean;
+#[cfg(test)]
 mod logical;
 #[cfg(test)]
 mod numeric;
