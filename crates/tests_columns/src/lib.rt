@@ -4,8 +4,6 @@
 #[cfg(test)]
 mod arith;
 #[cfg(test)]
-mod boolean;
-#[cfg(test)]
 mod logical;
 #[cfg(test)]
 mod numeric;

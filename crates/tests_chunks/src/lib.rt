@@ -1,0 +1,5 @@
+//! Tests of columns in chunks, over what their crates make public.
+#![tactic(auto)]
+
+#[cfg(test)]
+mod boolean;
