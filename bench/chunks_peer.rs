@@ -1,5 +1,5 @@
-//! The peer of the benchmark of chunks: the same reductions over plain slices, with words of bits that tell
-//! which words are valid or none where all are, in plain Rust.
+//! The peer of the benchmark of chunks: the same reductions, sums and changes of unit over plain slices, with
+//! words of bits that tell which words are valid or none where all are, in plain Rust.
 
 use std::process::ExitCode;
 
@@ -18,7 +18,7 @@ impl Column {
                 word = word
                     .wrapping_mul(6_364_136_223_846_793_005)
                     .wrapping_add(1_442_695_040_888_963_407);
-                word
+                word >> 16
             })
             .collect();
         let valid = (null_step > 0).then(|| {
@@ -47,12 +47,54 @@ impl Column {
         total
     }
 
+    /// The sum of the column with itself, wrapped.
+    fn add(&self) -> Column {
+        let words = self.words.iter().zip(&self.words).map(|(x, y)| x.wrapping_add(*y)).collect();
+        let valid = self.valid.as_ref().map(|bits| bits.iter().zip(bits).map(|(x, y)| x & y).collect());
+        Column { words, valid }
+    }
+
+    /// Microseconds as milliseconds, rounded down.
+    fn coarser(&self) -> Column {
+        let words = self.words.iter().map(|word| word.div_euclid(1_000)).collect();
+        Column { words, valid: self.valid.clone() }
+    }
+
+    /// Microseconds as nanoseconds, null where 64 bits don't hold them.
+    fn finer(&self) -> Column {
+        let mut words = Vec::with_capacity(self.words.len());
+        let mut valid = Vec::with_capacity(self.words.len().div_ceil(64));
+        for (at, part) in self.words.chunks(64).enumerate() {
+            let mut fits = 0u64;
+            for (bit, word) in part.iter().enumerate() {
+                let (word, over) = word.overflowing_mul(1_000);
+                words.push(word);
+                fits |= u64::from(!over) << bit;
+            }
+            valid.push(self.valid.as_ref().map_or(fits, |bits| bits[at] & fits));
+        }
+        Column { words, valid: Some(valid) }
+    }
+
+    fn slot(&self, row: usize) -> i64 {
+        let valid = self.valid.as_ref().map_or(true, |bits| (bits[row / 64] >> (row % 64)) & 1 == 1);
+        if valid { self.words[row] } else { 0 }
+    }
+
+    /// The first and the last slot, 0 for a null one.
+    fn ends(&self) -> i64 {
+        self.slot(0).wrapping_mul(31).wrapping_add(self.slot(self.words.len() - 1))
+    }
+
     fn answer(&self, call: &str) -> Option<i64> {
         match call {
             "sum" => Some(self.fold(0, i64::wrapping_add)),
             "product" => Some(self.fold(1, i64::wrapping_mul)),
             "min" => Some(self.fold(i64::MAX, i64::min)),
             "max" => Some(self.fold(i64::MIN, i64::max)),
+            "add" => Some(self.add().ends()),
+            "coarser" => Some(self.coarser().ends()),
+            "finer" => Some(self.finer().ends()),
             _ => None,
         }
     }

@@ -21,6 +21,9 @@ NULLS = ((0, 1.3), (16, 2.0))
 # A call, and how many rounds over a million slots it is run.
 REDUCTIONS = (("sum", 600), ("product", 600), ("min", 600), ("max", 600))
 
+# Calls of columns of moments, and the most time that is wanted.
+TEMPORAL = (("add", 200, 1.3), ("coarser", 200, 1.5), ("finer", 200, 1.5))
+
 # The same for calls that are made on one chunk and on 100,000, of as many slots as the script `short`
 # has, and the most time that is wanted on many, in that on one. It is wanted of chunks that are parts
 # of one buffer, as those of a script are; what chunks in memory of their own take is told beside it.
@@ -66,10 +69,11 @@ def command(program, call, null_step, rows, chunk_rows, memory, rounds):
 
 
 def are_like_peer(program, peer, runs):
-    """Whether reductions of one chunk keep their targets beside the peer."""
+    """Whether calls on one chunk keep their targets beside the peer."""
     met = []
     for null_step, most in NULLS:
-        for call, rounds in REDUCTIONS:
+        calls = [(call, rounds, most) for call, rounds in REDUCTIONS] + list(TEMPORAL)
+        for call, rounds, most in calls:
             pair = [command(who, call, null_step, ROWS, ROWS, "shared", rounds) for who in (program, peer)]
             nulls = f"one null in {null_step}" if null_step else "no nulls"
             met.append(is_met(f"{call}, {nulls}, times its peer", ratio(*pair, runs), most))

@@ -39,13 +39,13 @@ fn chunk_of(alloc: Global, words: &[i64], first: usize, null_step: usize) -> Res
     Ok(column)
 }
 
-/// So many words.
+/// So many words of 48 bits, which so fit as ticks of a finer unit.
 fn words(alloc: Global, rows: usize) -> Result<Vec<i64>> {
     let mut words = Vec::with_capacity(alloc, rows)?;
     let mut word = 1i64;
     for _ in 0..rows {
         word = word_after(word);
-        words.push(word)?;
+        words.push(word >> 16)?;
     }
     Ok(words)
 }

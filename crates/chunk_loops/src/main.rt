@@ -3,10 +3,12 @@
 #![tactic(auto)]
 
 mod columns;
+mod temporal;
 mod walks;
 
 use anyhow::{Context, Result, bail};
 use col_chunk::{IdxCa, Int64Chunked};
+use col_series::{Physical, Series, TimeUnit};
 use columns::{column_of, scattered_rows, set_word};
 use std::alloc::Global;
 use std::env;
@@ -36,6 +38,14 @@ fn ends_taken(alloc: Global, column: &Int64Chunked, indices: &IdxCa) -> Result<i
     Ok(ends_of(&column.take(alloc, indices)?))
 }
 
+/// The ends of a column that keeps ticks.
+fn ends_of_ticks(column: Series) -> Result<i64> {
+    match column.physical() {
+        Physical::Int64(words) => Ok(ends_of(words)),
+        Physical::Int32(_) => bail!("days"),
+    }
+}
+
 /// What one call answers.
 fn answer_of(alloc: Global, column: &Int64Chunked, call: &str, indices: &IdxCa) -> Result<i64> {
     match call {
@@ -47,6 +57,9 @@ fn answer_of(alloc: Global, column: &Int64Chunked, call: &str, indices: &IdxCa) 
         "take" => ends_taken(alloc, column, indices),
         "views" => Ok(walks::sum_by_views(column)),
         "runs" => Ok(walks::sum_by_runs(alloc, column)?),
+        "add" => ends_of_ticks(temporal::later(alloc, column)?),
+        "coarser" => ends_of_ticks(temporal::in_unit(alloc, column, TimeUnit::Milliseconds)?),
+        "finer" => ends_of_ticks(temporal::in_unit(alloc, column, TimeUnit::Nanoseconds)?),
         _ => bail!("no call {call}"),
     }
 }

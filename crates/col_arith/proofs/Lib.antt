@@ -1,5 +1,4 @@
 pub mod TickLemmas
-pub mod RowLemmas
 pub mod ColumnLemmas
 pub mod CoercionLemmas
 pub mod PairLemmas

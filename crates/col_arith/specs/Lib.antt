@@ -1,5 +1,5 @@
 pub mod PairRule
-pub mod Pairs
+pub mod Joined
 pub mod ScalarForm
 pub mod Coercion
 pub mod Laws

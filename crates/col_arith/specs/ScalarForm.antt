@@ -1,14 +1,17 @@
 -- The scalar forms as the code keeps them.
-use Rattle.std.specs.Prelude.{◌≡◌, ℤ, List, map, Option, Some, Result}
+use Rattle.std.specs.Prelude.{◌≡◌, ℤ, Some, Result, Ok, Err, if◌then◌else◌}
 use Rattle.std.specs.Int.{w32, w64}
-use Rattle.std.specs.Option.{option_and_then}
 use Rattle.col_types.specs.declared.data_type.DataType.{DataType}
 use Rattle.col_types.specs.declared.error.PolarsError.{PolarsError}
-use Rattle.col_model.specs.Arithmetic.{Interval, WordType, Signed, word_values}
+use Rattle.col_types.specs.declared.error.PolarsError.TheVariants as errors
+use Rattle.col_model.specs.Arithmetic.{Interval, WordType, Signed, is_within, word_values}
+use Rattle.col_model.specs.Chunked.{Chunked}
 use Rattle.col_model.specs.Column.{Column, day_values, values_of, physical_word}
 use Rattle.col_model.specs.Formula.{Formula, Fit, value_of}
 use Rattle.col_model.specs.ScalarTable.{right_form, left_form, bounded, scalar_dtype}
 use Rattle.col_model.specs.OperatorCalls.{scalar_right_of, scalar_left_of}
+use Rattle.col_model.specs.Words.{word_dtype}
+use Rattle.col_rule.specs.Columns.{mapped_chunks}
 use Rattle.col_arith.specs.declared.scalars.ScalarForm.{ScalarForm}
 use Rattle.col_arith.specs.declared.scalars.ScalarForm.TheVariants.{Right, Left}
 use Rattle.col_arith.specs.declared.scalars.Ticks.{Ticks}
@@ -23,6 +26,13 @@ form_of (Left op) k word = left_form k op word
 abbrev pub scalar_of : Column → ScalarForm → ℤ → Result Column PolarsError
 scalar_of column (Right op) k = scalar_right_of column op k
 scalar_of column (Left op) k = scalar_left_of k op column
+
+-- words under a formula with an integer, or that the word doesn't hold it
+abbrev pub scalar_words : WordType → Formula → ℤ → Chunked → Result Chunked PolarsError
+scalar_words word formula k words =
+    if is_within (word_values word) k
+    then Ok (mapped_chunks (λ x. value_of formula x x) (word_dtype word) words)
+    else Err (errors.Scalar k)
 
 -- ---- ticks
 
@@ -43,15 +53,6 @@ abbrev pub values_in : Ticks → Interval
 values_in Days = word_values (Signed w32)
 values_in Times = day_values
 values_in Wide = word_values (Signed w64)
-
--- a tick under a form with an integer
-abbrev pub scalar_tick : Ticks → ScalarForm → ℤ → ℤ → Option ℤ
-scalar_tick ticks form k tick =
-    value_of (bounded_by ticks (form_of form k (word_of ticks))) tick tick
-
--- each tick under a form with an integer
-abbrev pub scalar_ticks : Ticks → ScalarForm → ℤ → List (Option ℤ) → List (Option ℤ)
-scalar_ticks ticks form k slots = map (option_and_then (scalar_tick ticks form k)) slots
 
 -- what ticks have to do with a type, which is also that of the answer
 pub record FitsType (dtype : DataType) (ticks : Ticks) : Type 0 where

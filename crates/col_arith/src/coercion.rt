@@ -1,16 +1,14 @@
 // Common types of two columns.
-ghost use Rattle.std.specs.Prelude.{◌≡◌, true, Ok, IfOk};
-ghost use Rattle.col_types.specs.PolarsError.{GivesBy, seen_by};
+ghost use Rattle.std.specs.Prelude.{◌≡◌, true, Ok};
+ghost use Rattle.col_types.specs.PolarsError.{GivesBy};
 ghost use Rattle.col_model.specs.Chunked.{column_of};
 ghost use Rattle.col_model.specs.Column.{is_built_type};
 ghost use Rattle.col_arith.specs.Coercion.{coerced_types, coerced_of, cast_to, changes_type};
-ghost use Rattle.col_arith.specs.Coercion.{columns_of_both, uncoerced_rule, CanCast};
-ghost use Rattle.col_arith.specs.PairRule.{operator_rule_of, FitsTypes};
+ghost use Rattle.col_arith.specs.Coercion.{columns_of_both, CanCast};
 
-use crate::pair_rule::{TypedRule, operator_rule, unsupported};
 use col_series::Series;
 use col_types::{
-    BinOp, CastOptions, DataType, OpName, PolarsError, PolarsResult, flat_supertype, get_time_units,
+    CastOptions, DataType, OpName, PolarsError, PolarsResult, flat_supertype, get_time_units,
 };
 use std::alloc::Global;
 
@@ -67,9 +65,13 @@ fn cast_both(
     ensures columns { GivesBy columns_of_both result
         (Ok (cast_to lhs.now.column left.now, cast_to rhs.now.column right.now)) }
 {
-    match (cast_to(alloc, lhs, left), cast_to(alloc, rhs, right)) {
-        (Ok(left), Ok(right)) => Ok((left, right)),
-        (Err(refusal), _) | (_, Err(refusal)) => Err(refusal),
+    let left = match cast_to(alloc, lhs, left) {
+        Ok(left) => left,
+        Err(refusal) => return Err(refusal),
+    };
+    match cast_to(alloc, rhs, right) {
+        Ok(right) => Ok((left, right)),
+        Err(refusal) => Err(refusal),
     }
 }
 
@@ -104,7 +106,7 @@ pub fn coerce_lhs_rhs_owned(
 }
 
 /// Whether coercion gives one of the two another type.
-fn changes_type(left: &DataType, right: &DataType) -> bool
+pub(crate) fn changes_type(left: &DataType, right: &DataType) -> bool
     requires left { is_built_type left.now ≡ true }
     requires right { is_built_type right.now ≡ true }
     ensures changes { result ≡ changes_type left.now right.now (coerced_types left.now right.now) }
@@ -112,23 +114,5 @@ fn changes_type(left: &DataType, right: &DataType) -> bool
     match coerced_types(left, right) {
         Some((new_left, new_right)) => !new_left.is_same(left) || !new_right.is_same(right),
         None => false,
-    }
-}
-
-/// The rule for an operator and two types that coercion leaves as they are, or the refusal.
-pub(crate) fn uncoerced_rule(
-    op: BinOp,
-    left: &DataType,
-    right: &DataType,
-) -> PolarsResult<TypedRule>
-    requires left { is_built_type left.now ≡ true }
-    requires right { is_built_type right.now ≡ true }
-    ensures rule { seen_by operator_rule_of result ≡ uncoerced_rule op left.now right.now }
-    ensures fits { IfOk result (FitsTypes left.now right.now) }
-{
-    if changes_type(left, right) {
-        Err(unsupported(op, left, right))
-    } else {
-        operator_rule(op, left, right)
     }
 }

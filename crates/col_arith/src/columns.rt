@@ -1,17 +1,22 @@
 // Two columns joined by an operator.
-ghost use Rattle.std.specs.Prelude.{◌≡◌, length, Ok, Some, IfOk};
-ghost use Rattle.col_types.specs.PolarsError.{GivesBy, seen_by};
+ghost use Rattle.std.specs.Prelude.{◌≡◌, Err, is_some, length};
+ghost use Rattle.col_types.specs.PolarsError.{GivesBy};
+ghost use Rattle.col_types.specs.declared.operator.BinOp.TheVariants.{Add, Sub, Rem};
 ghost use Rattle.col_model.specs.Broadcast.{broadcast_length};
 ghost use Rattle.col_model.specs.Chunked.{column_of};
-ghost use Rattle.col_model.specs.OperatorCalls.{binary_of, binary_by, binary_column};
-ghost use Rattle.col_arith.specs.PairRule.{operator_rule_of, FitsTypes};
+ghost use Rattle.col_model.specs.OperationNames.{name_of_op, unsupported};
+ghost use Rattle.col_model.specs.OperatorCalls.{binary_of, binary_by};
 ghost use Rattle.col_arith.specs.Coercion.{uncoerced_of};
 
-use crate::coercion::uncoerced_rule;
-use crate::pair_rule::{TypedRule, operator_rule};
-use crate::pairs::{broadcast_length, pair_ticks};
+use crate::coercion::changes_type;
+use crate::joined::{
+    dates_and_moments, dates_apart, dates_with_lengths, lengths_with_dates, moments_and_dates,
+    ticks_joined, times_apart,
+};
+use crate::operators::{DateWith, Lengths, Minus, Moments, Plus, Rests, Ticks};
+use crate::pair_rule::unsupported;
 use col_series::Series;
-use col_types::{BinOp, PolarsError, PolarsResult};
+use col_types::{BinOp, DataType, PolarsError, PolarsResult, get_time_units, same_zone};
 use std::alloc::Global;
 
 /// Two columns joined by an operator, slot by slot; one row of either stands for all. Refused where
@@ -20,8 +25,12 @@ use std::alloc::Global;
 pub fn binary(alloc: Global, op: BinOp, left: &Series, right: &Series) -> PolarsResult<Series>
     ensures column { GivesBy column_of result (binary_of op left.now.column right.now.column) }
 {
-    let rule = operator_rule(op, left.dtype(), right.dtype());
-    binary_by(alloc, left, right, rule)
+    match op {
+        BinOp::Add => sums(alloc, left, right),
+        BinOp::Sub => differences(alloc, left, right),
+        BinOp::Mul | BinOp::Div => refused(op, left, right),
+        BinOp::Rem => rests(alloc, left, right),
+    }
 }
 
 /// As `binary`, but refused (`Types`) also where coercion would give an operand another type.
@@ -35,49 +44,105 @@ pub fn uncoerced_binary(
 {
     left.known();
     right.known();
-    let rule = uncoerced_rule(op, left.dtype(), right.dtype());
-    binary_by(alloc, left, right, rule)
-}
-
-/// Two columns by a rule of the table or its refusal; lengths are tested before types.
-fn binary_by(
-    alloc: Global,
-    left: &Series,
-    right: &Series,
-    rule: PolarsResult<TypedRule>,
-) -> PolarsResult<Series>
-    requires fits { IfOk rule (FitsTypes left.now.column.dtype right.now.column.dtype) }
-    ensures column { GivesBy column_of result (binary_by left.now.column right.now.column
-        (broadcast_length (length left.now.column.slots) (length right.now.column.slots))
-        (seen_by operator_rule_of rule)) }
-{
-    match (broadcast_length(left.len(), right.len()), rule) {
-        (None, _) => Err(PolarsError::Lengths {
-            left: left.len(),
-            right: right.len(),
-        }),
-        (Some(_), Err(refusal)) => Err(refusal),
-        (Some(rows), Ok(rule)) => binary_column(alloc, left, right, rows, rule),
+    if changes_type(left.dtype(), right.dtype()) {
+        refused(op, left, right)
+    } else {
+        binary(alloc, op, left, right)
     }
 }
 
-/// So many rows of two columns by a rule of the table.
-fn binary_column(
-    alloc: Global,
-    left: &Series,
-    right: &Series,
-    rows: usize,
-    typed: TypedRule,
-) -> PolarsResult<Series>
-    requires rows { broadcast_length (length left.now.column.slots)
-        (length right.now.column.slots) ≡ Some rows }
-    requires fits { FitsTypes left.now.column.dtype right.now.column.dtype typed }
-    ensures column { GivesBy column_of result
-        (Ok (binary_column left.now.column right.now.column rows (operator_rule_of typed))) }
+/// Whether columns of these lengths have rows to join: as many, or one that stands for all.
+fn lengths_meet(left: usize, right: usize) -> bool
+    ensures meet { result ≡ is_some (broadcast_length left right) }
+{
+    left == right || left == 1 || right == 1
+}
+
+/// The refusal of types for which the operator isn't defined; lengths are tested before types.
+fn refused(op: BinOp, left: &Series, right: &Series) -> PolarsResult<Series>
+    ensures column { GivesBy column_of result (binary_by left.now.column right.now.column
+        (broadcast_length (length left.now.column.slots) (length right.now.column.slots))
+        (Err (unsupported (name_of_op op) left.now.column.dtype right.now.column.dtype))) }
+{
+    if lengths_meet(left.len(), right.len()) {
+        Err(unsupported(op, left.dtype(), right.dtype()))
+    } else {
+        Err(PolarsError::Lengths {
+            left: left.len(),
+            right: right.len(),
+        })
+    }
+}
+
+/// Sums; where units differ, both operands go to the coarser one.
+fn sums(alloc: Global, left: &Series, right: &Series) -> PolarsResult<Series>
+    ensures column { GivesBy column_of result (binary_of Add left.now.column right.now.column) }
 {
     left.known();
     right.known();
-    let ticks = pair_ticks(alloc, typed.rule, left.ticks(), right.ticks(), rows)?;
-    let name = left.name().clone()?;
-    Series::from_ticks(alloc, name, typed.dtype, ticks)
+    match (left.dtype(), right.dtype()) {
+        (DataType::Date, DataType::Duration(v)) => {
+            dates_with_lengths::<DateWith<Plus>>(alloc, *v, left, right)
+        }
+        (DataType::Duration(u), DataType::Date) => lengths_with_dates(alloc, *u, left, right),
+        (DataType::Datetime(u, zone), DataType::Duration(v)) => {
+            let dtype = DataType::Datetime(get_time_units(*u, *v), *zone);
+            ticks_joined::<Ticks<Plus, Moments, Lengths>>(alloc, (*u, *v), left, right, dtype)
+        }
+        (DataType::Duration(u), DataType::Datetime(v, zone)) => {
+            let dtype = DataType::Datetime(get_time_units(*u, *v), *zone);
+            ticks_joined::<Ticks<Plus, Lengths, Moments>>(alloc, (*u, *v), left, right, dtype)
+        }
+        (DataType::Duration(u), DataType::Duration(v)) => {
+            let dtype = DataType::Duration(get_time_units(*u, *v));
+            ticks_joined::<Ticks<Plus, Lengths, Lengths>>(alloc, (*u, *v), left, right, dtype)
+        }
+        _ => refused(BinOp::Add, left, right),
+    }
+}
+
+/// Differences; moments are apart only in one zone.
+fn differences(alloc: Global, left: &Series, right: &Series) -> PolarsResult<Series>
+    ensures column { GivesBy column_of result (binary_of Sub left.now.column right.now.column) }
+{
+    left.known();
+    right.known();
+    match (left.dtype(), right.dtype()) {
+        (DataType::Date, DataType::Date) => dates_apart(alloc, left, right),
+        (DataType::Time, DataType::Time) => times_apart(alloc, left, right),
+        (DataType::Date, DataType::Duration(v)) => {
+            dates_with_lengths::<DateWith<Minus>>(alloc, *v, left, right)
+        }
+        (DataType::Date, DataType::Datetime(v, _)) => dates_and_moments(alloc, *v, left, right),
+        (DataType::Datetime(u, _), DataType::Date) => moments_and_dates(alloc, *u, left, right),
+        (DataType::Datetime(u, y), DataType::Datetime(v, z)) => {
+            if !same_zone(y, z) {
+                return refused(BinOp::Sub, left, right);
+            }
+            let dtype = DataType::Duration(get_time_units(*u, *v));
+            ticks_joined::<Ticks<Minus, Moments, Moments>>(alloc, (*u, *v), left, right, dtype)
+        }
+        (DataType::Datetime(u, zone), DataType::Duration(v)) => {
+            let dtype = DataType::Datetime(get_time_units(*u, *v), *zone);
+            ticks_joined::<Ticks<Minus, Moments, Lengths>>(alloc, (*u, *v), left, right, dtype)
+        }
+        (DataType::Duration(u), DataType::Duration(v)) => {
+            let dtype = DataType::Duration(get_time_units(*u, *v));
+            ticks_joined::<Ticks<Minus, Lengths, Lengths>>(alloc, (*u, *v), left, right, dtype)
+        }
+        _ => refused(BinOp::Sub, left, right),
+    }
+}
+
+/// What divisions of lengths of time leave.
+fn rests(alloc: Global, left: &Series, right: &Series) -> PolarsResult<Series>
+    ensures column { GivesBy column_of result (binary_of Rem left.now.column right.now.column) }
+{
+    match (left.dtype(), right.dtype()) {
+        (DataType::Duration(u), DataType::Duration(v)) => {
+            let dtype = DataType::Duration(get_time_units(*u, *v));
+            ticks_joined::<Rests>(alloc, (*u, *v), left, right, dtype)
+        }
+        _ => refused(BinOp::Rem, left, right),
+    }
 }

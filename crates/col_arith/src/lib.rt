@@ -5,13 +5,17 @@ mod arith;
 mod coercion;
 mod columns;
 mod intervals;
+mod joined;
 mod laws;
+mod operators;
 mod pair_rule;
-mod pairs;
+mod reading;
+mod rows;
 mod scalar;
 mod scalar_intervals;
 mod scalars;
 mod ticks;
+mod words;
 
 pub use arith::SeriesArith;
 pub use coercion::{coerce_lhs_rhs, coerce_lhs_rhs_owned};

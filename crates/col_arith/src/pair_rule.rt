@@ -1,19 +1,16 @@
 // The rules of the operator table.
-ghost use Rattle.std.specs.Prelude.{◌≡◌, Some, IfSome, IfOk};
-ghost use Rattle.col_types.specs.PolarsError.{seen_by};
+ghost use Rattle.std.specs.Prelude.{◌≡◌, Some, IfSome};
 ghost use Rattle.col_types.specs.TimeUnit.{ticks_per_day, coarser_unit};
 ghost use Rattle.col_types.specs.declared.time_unit.TimeUnit.TheVariants.{Milliseconds};
 ghost use Rattle.col_model.specs.OperationNames.{name_of_op, unsupported};
 ghost use Rattle.col_model.specs.UnitChange.{unit_change};
-ghost use Rattle.col_model.specs.OperatorTable.{operator_rule, listed_rule};
+ghost use Rattle.col_model.specs.OperatorTable.{listed_rule};
 ghost use Rattle.col_model.specs.OperatorTable.{sum_rule, difference_rule, rest_rule};
-ghost use Rattle.col_arith.specs.PairRule.{operator_rule_of, listed_rule_of, FitsTypes};
+ghost use Rattle.col_arith.specs.PairRule.{listed_rule_of, FitsTypes};
 ghost use Rattle.col_arith.specs.PairRule.{IsProper, IsProperOperand, IsDay};
 
 use col_model::{UnitChange, ticks_per_day as day_in_ticks, unit_change};
-use col_types::{
-    BinOp, DataType, OpName, PolarsError, PolarsResult, TimeUnit, get_time_units, same_zone,
-};
+use col_types::{BinOp, DataType, OpName, PolarsError, TimeUnit, get_time_units, same_zone};
 
 /// Which of the two a rule gives.
 #[derive(Clone, Copy)]
@@ -57,7 +54,7 @@ pub(crate) struct TypedRule {
     pub(crate) rule: PairRule,
 }
 
-fn ticks_per_day(unit: TimeUnit) -> u64
+pub(crate) fn ticks_per_day(unit: TimeUnit) -> u64
     ensures value { result ≡ ticks_per_day unit }
     ensures day { IsDay result }
 {
@@ -65,7 +62,7 @@ fn ticks_per_day(unit: TimeUnit) -> u64
 }
 
 /// A moment in another unit.
-fn moment(from: TimeUnit, to: TimeUnit) -> Operand
+pub(crate) fn moment(from: TimeUnit, to: TimeUnit) -> Operand
     ensures operand { result ≡ Operand.Moment (unit_change from to) }
     ensures proper { IsProperOperand result }
 {
@@ -73,7 +70,7 @@ fn moment(from: TimeUnit, to: TimeUnit) -> Operand
 }
 
 /// A length of time in another unit.
-fn length(from: TimeUnit, to: TimeUnit) -> Operand
+pub(crate) fn length(from: TimeUnit, to: TimeUnit) -> Operand
     ensures operand { result ≡ Operand.Length (unit_change from to) }
     ensures proper { IsProperOperand result }
 {
@@ -81,7 +78,7 @@ fn length(from: TimeUnit, to: TimeUnit) -> Operand
 }
 
 /// A date as the beginning of its day.
-fn day(unit: TimeUnit) -> Operand
+pub(crate) fn day(unit: TimeUnit) -> Operand
     ensures operand { result ≡ Operand.Day (ticks_per_day unit) }
     ensures proper { IsProperOperand result }
 {
@@ -103,7 +100,7 @@ fn difference(left: Operand, right: Operand) -> PairRule
 }
 
 /// The rule of a date with a length of time: both in the coarser of milliseconds and its unit.
-fn date_with(op: AddOrSub, length: TimeUnit) -> PairRule
+pub(crate) fn date_with(op: AddOrSub, length: TimeUnit) -> PairRule
     ensures rule { result ≡ PairRule.DateWith op (ticks_per_day (coarser_unit Milliseconds length))
         (unit_change length (coarser_unit Milliseconds length)) }
     ensures proper { IsProper result }
@@ -133,17 +130,6 @@ pub(crate) fn unsupported(op: BinOp, left: &DataType, right: &DataType) -> Polar
         op: name_of_op(op),
         left: left.kind(),
         right: right.kind(),
-    }
-}
-
-/// The rule for an operator and two types, or the refusal.
-pub(crate) fn operator_rule(op: BinOp, left: &DataType, right: &DataType) -> PolarsResult<TypedRule>
-    ensures rule { seen_by operator_rule_of result ≡ operator_rule op left.now right.now }
-    ensures fits { IfOk result (FitsTypes left.now right.now) }
-{
-    match listed_rule(op, left, right) {
-        Some(rule) => Ok(rule),
-        None => Err(unsupported(op, left, right)),
     }
 }
 

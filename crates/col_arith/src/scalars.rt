@@ -1,18 +1,17 @@
-// Ticks under the scalar forms.
-ghost use Rattle.std.specs.Prelude.{◌≡◌, true, IfOk};
-ghost use Rattle.std.specs.List.{list_all};
-ghost use Rattle.std.specs.Int.{w32, w64};
+// Words under the scalar forms.
+ghost use Rattle.std.specs.Prelude.{◌≡◌, true};
+ghost use Rattle.std.specs.Int.{w64};
 ghost use Rattle.std.specs.Option.{option_and_then, option_map};
-ghost use Rattle.col_model.specs.Arithmetic.{Signed, fitting_value, is_within, word_values};
+ghost use Rattle.col_model.specs.Arithmetic.{Signed, fitting_value, wrapped_value};
 ghost use Rattle.col_model.specs.Column.{day_values, is_built_type};
-ghost use Rattle.col_model.specs.Formula.{value_of};
-ghost use Rattle.col_arith.specs.PairRule.{is_tick_in, date_values, tick_values};
-ghost use Rattle.col_arith.specs.ScalarForm.{form_of, word_of, values_in, scalar_tick};
-ghost use Rattle.col_arith.specs.ScalarForm.{scalar_ticks, FitsType};
+ghost use Rattle.col_model.specs.Formula.{Fit, value_of};
+ghost use Rattle.col_arith.specs.PairRule.{is_tick_in, tick_values};
+ghost use Rattle.col_arith.specs.ScalarForm.{FitsType, form_of};
 
 use col_kernel::Word;
+use col_logical::{kept, tick};
+use col_rule::{Outcome, SlotRule, outcome_of};
 use col_types::{BinOp, DataType, NANOS_PER_DAY, ScalarOp};
-use std::alloc::{AllocError, Global};
 
 /// How a column's value and an integer meet, and on which side the integer stands.
 #[derive(Clone, Copy)]
@@ -45,25 +44,39 @@ pub(crate) fn ticks_of(dtype: &DataType) -> Ticks
     }
 }
 
-/// The integer in the word of the ticks, none where the word doesn't hold it.
-pub(crate) fn scalar_in(ticks: Ticks, k: i128) -> Option<i64>
-    ensures value { result ≡ fitting_value (word_values (word_of ticks)) k }
-{
-    match ticks {
-        Ticks::Days => {
-            if i128::from(i32::MIN) <= k && k <= i128::from(i32::MAX) {
-                Some(k as i64)
-            } else {
-                None
-            }
-        }
-        Ticks::Times | Ticks::Wide => {
-            if i128::from(i64::MIN) <= k && k <= i128::from(i64::MAX) {
-                Some(k as i64)
-            } else {
-                None
-            }
-        }
+/// A word with an integer of its width, under a form.
+#[derive(Drop)]
+pub(crate) struct WithScalar<W: Word> {
+    pub(crate) form: ScalarForm,
+    pub(crate) k: W,
+}
+
+impl<W: Word> SlotRule<W, W> for WithScalar<W> {
+    ghost value = { λ r x. value_of (form_of r.form (W.reading r.k) W.word_type) x x };
+
+    ghost kept = { λ r x. value_of (form_of r.form (W.reading r.k) W.word_type) x x };
+
+    fn at(&self, x: W) -> Outcome<W> {
+        outcome_of(form_value(self.form, x, self.k))
+    }
+}
+
+/// A time with an integer under a form, none outside the day.
+#[derive(Drop)]
+pub(crate) struct TimeWithScalar {
+    pub(crate) form: ScalarForm,
+    pub(crate) k: i64,
+}
+
+impl SlotRule<i64, i64> for TimeWithScalar {
+    ghost value = { λ r x. value_of
+        (Fit day_values (form_of r.form (wrapped_value (Signed w64) r.k) (Signed w64))) x x };
+
+    ghost kept = { λ r x. value_of
+        (Fit day_values (form_of r.form (wrapped_value (Signed w64) r.k) (Signed w64))) x x };
+
+    fn at(&self, x: i64) -> Outcome<i64> {
+        kept(time_in_day(wide_value(self.form, tick(x), tick(self.k))))
     }
 }
 
@@ -91,35 +104,6 @@ fn form_value<W: Word>(form: ScalarForm, value: W, k: W) -> Option<W>
     }
 }
 
-/// A number of days in its word.
-fn narrowed(days: i64) -> i32
-    requires days { is_within date_values days ≡ true }
-    ensures same { result ≡ days }
-{
-    days as i32
-}
-
-/// A number of days in 64 bits.
-fn widened(days: Option<i32>) -> Option<i64>
-    ensures same { result ≡ days }
-    ensures fits { is_tick_in date_values result ≡ true }
-{
-    match days {
-        Some(days) => Some(i64::from(days)),
-        None => None,
-    }
-}
-
-/// A number of days and an integer under the form.
-fn day_value(form: ScalarForm, days: i64, k: i64) -> Option<i64>
-    requires days { is_within date_values days ≡ true }
-    requires scalar { is_within date_values k ≡ true }
-    ensures value { result ≡ value_of (form_of form k (Signed w32)) days days }
-    ensures fits { is_tick_in date_values result ≡ true }
-{
-    widened(form_value(form, narrowed(days), narrowed(k)))
-}
-
 /// A tick of 64 bits and an integer under the form.
 fn wide_value(form: ScalarForm, tick: i64, k: i64) -> Option<i64>
     ensures value { result ≡ value_of (form_of form k (Signed w64)) tick tick }
@@ -131,7 +115,6 @@ fn wide_value(form: ScalarForm, tick: i64, k: i64) -> Option<i64>
 /// A time, none outside the day.
 fn time_in_day(tick: Option<i64>) -> Option<i64>
     ensures value { result ≡ option_and_then (fitting_value day_values) tick }
-    ensures fits { is_tick_in day_values result ≡ true }
 {
     match tick {
         Some(tick) => {
@@ -143,52 +126,4 @@ fn time_in_day(tick: Option<i64>) -> Option<i64>
         }
         None => None,
     }
-}
-
-/// A tick and an integer of its word under the form.
-fn scalar_tick(ticks: Ticks, form: ScalarForm, tick: i64, k: i64) -> Option<i64>
-    requires tick { is_within (values_in ticks) tick ≡ true }
-    requires scalar { is_within (word_values (word_of ticks)) k ≡ true }
-    ensures value { result ≡ scalar_tick ticks form k tick }
-    ensures fits { is_tick_in (values_in ticks) result ≡ true }
-{
-    match ticks {
-        Ticks::Days => day_value(form, tick, k),
-        Ticks::Times => time_in_day(wide_value(form, tick, k)),
-        Ticks::Wide => wide_value(form, tick, k),
-    }
-}
-
-/// An optional tick and an integer of its word under the form.
-fn scalar_slot(ticks: Ticks, form: ScalarForm, slot: Option<i64>, k: i64) -> Option<i64>
-    requires slot { is_tick_in (values_in ticks) slot ≡ true }
-    requires scalar { is_within (word_values (word_of ticks)) k ≡ true }
-    ensures value { result ≡ option_and_then (scalar_tick ticks form k) slot }
-    ensures fits { is_tick_in (values_in ticks) result ≡ true }
-{
-    match slot {
-        Some(tick) => scalar_tick(ticks, form, tick, k),
-        None => None,
-    }
-}
-
-/// Each slot with an integer of its word under the form, in one allocation of their size.
-pub(crate) fn scalar_ticks(
-    alloc: Global,
-    ticks: Ticks,
-    form: ScalarForm,
-    slots: &[Option<i64>],
-    k: i64,
-) -> Result<Vec<Option<i64>>, AllocError>
-    requires slots { list_all (is_tick_in (values_in ticks)) slots.now ≡ true }
-    requires scalar { is_within (word_values (word_of ticks)) k ≡ true }
-    ensures ticks { IfOk result (λ given. given.items ≡ scalar_ticks ticks form k slots.now) }
-    ensures fit { IfOk result
-        (λ given. list_all (is_tick_in (values_in ticks)) given.items ≡ true) }
-{
-    let mut given = Vec::with_capacity(alloc, slots.len())?;
-    for slot in slots {
-        given.push(scalar_slot(ticks, form, *slot, k))?;
-    }
-    Ok(given)
 }

@@ -15,8 +15,12 @@ use col_kernel::Word;
 use col_model::{UnitChange, datetime_by, duration_by, fitting_day};
 use col_types::MILLIS_PER_DAY;
 
+// Each function is inlined into the loop that calls it with a rule of constants, which then tests no
+// rule and divides by constants.
+
 /// The sum or the difference, wrapped to 64 bits.
-fn wrapping_op(op: AddOrSub, left: i64, right: i64) -> i64
+#[inline(always)]
+pub(crate) fn wrapping_op(op: AddOrSub, left: i64, right: i64) -> i64
     ensures value { Some result ≡ value_of (wrapping (add_or_sub op) X Y) left right }
     ensures fits { is_within tick_values result ≡ true }
 {
@@ -27,6 +31,7 @@ fn wrapping_op(op: AddOrSub, left: i64, right: i64) -> i64
 }
 
 /// The number of a day, none where the word of dates doesn't hold it.
+#[inline(always)]
 fn as_date(days: i64) -> Option<i64>
     ensures value { result ≡ fitting_value date_values days }
     ensures fits { is_tick_in date_values result ≡ true }
@@ -35,6 +40,7 @@ fn as_date(days: i64) -> Option<i64>
 }
 
 /// What a division leaves, with the divisor's sign; none for a divisor 0.
+#[inline(always)]
 fn rest(tick: i64, divisor: i64) -> Option<i64>
     ensures value { result ≡ divided floor_mod tick divisor }
     ensures fits { is_tick_in tick_values result ≡ true }
@@ -43,6 +49,7 @@ fn rest(tick: i64, divisor: i64) -> Option<i64>
 }
 
 /// An operand's tick in the answer's unit.
+#[inline(always)]
 fn operand_tick(operand: Operand, tick: i64) -> Option<i64>
     requires proper { IsProperOperand operand }
     ensures value { result ≡ value_of (operand_of operand X) tick tick }
@@ -55,6 +62,7 @@ fn operand_tick(operand: Operand, tick: i64) -> Option<i64>
 }
 
 /// The sum or the difference of two optional ticks, wrapped to 64 bits.
+#[inline(always)]
 fn wrapping_slots(op: AddOrSub, left: Option<i64>, right: Option<i64>) -> Option<i64>
     ensures value { result ≡ on_both (value_of (wrapping (add_or_sub op) X Y)) left right }
     ensures fits { is_tick_in tick_values result ≡ true }
@@ -66,6 +74,7 @@ fn wrapping_slots(op: AddOrSub, left: Option<i64>, right: Option<i64>) -> Option
 }
 
 /// What a division of two optional ticks leaves.
+#[inline(always)]
 fn rest_of_slots(tick: Option<i64>, divisor: Option<i64>) -> Option<i64>
     ensures value { result ≡ on_both (divided floor_mod) tick divisor }
     ensures fits { is_tick_in tick_values result ≡ true }
@@ -77,6 +86,7 @@ fn rest_of_slots(tick: Option<i64>, divisor: Option<i64>) -> Option<i64>
 }
 
 /// The tick at which a date begins.
+#[inline(always)]
 fn midnight(date: i64, day: u64) -> i64
     requires day { IsShortDay day }
     requires date { is_within date_values date ≡ true }
@@ -86,6 +96,7 @@ fn midnight(date: i64, day: u64) -> i64
 }
 
 /// The whole days of so many ticks, rounded down.
+#[inline(always)]
 fn whole_days(ticks: i64, day: u64) -> i64
     requires some { 1 < day }
     requires small { day < 2 ^ 63 }
@@ -96,6 +107,7 @@ fn whole_days(ticks: i64, day: u64) -> i64
 }
 
 /// The date of an optional moment.
+#[inline(always)]
 fn date_of(moment: Option<i64>, day: u64) -> Option<i64>
     requires day { IsShortDay day }
     ensures value { result ≡ option_and_then (fitting_value date_values)
@@ -110,6 +122,7 @@ fn date_of(moment: Option<i64>, day: u64) -> Option<i64>
 
 /// The date of a date joined with a length of time, both told in a unit of which a day has so many
 /// ticks.
+#[inline(always)]
 fn date_with(op: AddOrSub, day: u64, change: UnitChange, date: i64, length: i64) -> Option<i64>
     requires proper { IsProper (PairRule.DateWith op day change) }
     requires date { is_within date_values date ≡ true }
@@ -121,6 +134,7 @@ fn date_with(op: AddOrSub, day: u64, change: UnitChange, date: i64, length: i64)
 }
 
 /// The number of the day so many days after a date.
+#[inline(always)]
 fn days_after(days: i64, date: i64) -> i64
     requires days { unsigned_abs days ≤ 2 ^ 62 }
     requires date { is_within date_values date ≡ true }
@@ -130,6 +144,7 @@ fn days_after(days: i64, date: i64) -> i64
 }
 
 /// The day that lies so many whole days of a length of time, rounded down, after a date.
+#[inline(always)]
 fn length_then_date(day: u64, length: i64, date: i64) -> Option<i64>
     requires proper { IsProper (PairRule.LengthThenDate day) }
     requires date { is_within date_values date ≡ true }
@@ -140,6 +155,7 @@ fn length_then_date(day: u64, length: i64, date: i64) -> Option<i64>
 }
 
 /// Two ticks under the rule.
+#[inline(always)]
 pub(crate) fn pair_tick(rule: PairRule, left: i64, right: i64) -> Option<i64>
     requires proper { IsProper rule }
     requires left { is_within (left_values rule) left ≡ true }

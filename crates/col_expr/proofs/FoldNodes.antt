@@ -1,6 +1,6 @@
 -- Nodes over folded operands: their refusals, and two operands.
 use Rattle.std.proofs.Common.{◌≡◌, ℕ, ◌+◌, Bool, true, false, ◌&&◌, List, length, Option, Some}
-use Rattle.std.proofs.Common.{None, Result, IfOk, refl, sym, ap, ◌∙◌, subst}
+use Rattle.std.proofs.Common.{None, Result, Ok, Err, IfOk, OnOk, refl, sym, ap, ◌∙◌, subst}
 use Rattle.std.specs.Prelude.{if◌then◌else◌}
 use Rattle.std.specs.Option.{option_or}
 use Rattle.col_types.specs.declared.data_type.DataType.{DataType}
@@ -232,3 +232,8 @@ node_both inputs plan first second node op l r before after answer next at is =
           (folded_by inputs plan (numbers_from second r) r).numbers;
     }) before after answer in
     subst P next (subst Q at is)
+
+-- what holds whatever the result is holds where it is no refusal
+pub on_ok-always : {T E : Type 0} (P : Type 0) (r : Result T E) → P → OnOk r P
+on_ok-always P (Ok x) p = p
+on_ok-always P (Err e) p = tt

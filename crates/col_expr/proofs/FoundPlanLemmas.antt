@@ -1,31 +1,26 @@
--- The plan that columns give is valid, and the code finds it.
-use Rattle.std.proofs.Common.{◌≡◌, ℕ, ℤ, ◌+◌, ◌≤◌, ◌<◌, ◌≤ℤ◌, List, [], ◌∷◌, ◌++◌, Bool, true, false, ◌&&◌, Option, Some, None, if◌then◌else◌, refl, sym, ap, ◌∙◌, subst, arith, append_assoc, Greater, zero-add}
-use Rattle.std.specs.Prelude.{slice_get, nat_lt, nat_le, int_le, IfSome, OnSome}
+-- The plan that columns give is valid.
+use Rattle.std.proofs.Common.{◌≡◌, ℕ, ◌+◌, ◌≤◌, ◌<◌, List, [], ◌∷◌, ◌++◌, Bool, true, false, Option}
+use Rattle.std.proofs.Common.{Some, None, if◌then◌else◌, refl, sym, ap, ◌∙◌, arith, Greater}
+use Rattle.std.proofs.Common.{zero-add}
+use Rattle.std.specs.Prelude.{slice_get, nat_lt, nat_le, int_le}
 use Rattle.std.specs.List.{list_all, All}
-use Rattle.std.specs.Int.{int_min, int_max}
 use Rattle.std.specs.BTreeMap.{is_at}
 use Rattle.std.specs.Ordering.{nat_cmp, match_ordering}
 use Rattle.std.proofs.lemmas.Bool.Decides.{nat_tests}
 use Rattle.std.proofs.lemmas.Bool.{and_parts, and_from}
-use Rattle.std.proofs.lemmas.Int.{ints, clamps}
 use Rattle.col_types.specs.declared.data_type.DataType.{DataType}
-use Rattle.col_model.specs.Arithmetic.{Interval, is_inside}
-use Rattle.col_model.specs.Value.{Value, Leaf, Flat, Nested, Whole, Bytes, whole}
-use Rattle.col_model.specs.Column.{Column, IsValidColumn, values_of, is_slot_of}
-use Rattle.col_model.proofs.WithinLemmas.{is_within-true, le_true}
-use Rattle.col_expr.specs.Tree.{Tree, Input, Cast, Binary, ScalarRight, ScalarLeft, InUnit, Shift, node_count}
+use Rattle.col_model.specs.Arithmetic.{Interval}
+use Rattle.col_model.specs.Column.{Column, IsValidColumn}
+use Rattle.col_expr.specs.Tree.{Tree, Input, Cast, Binary, ScalarRight, ScalarLeft, InUnit, Shift}
+use Rattle.col_expr.specs.Tree.{node_count}
 use Rattle.col_expr.specs.Numbers.{Numbers, number_at, below, left_of, right_of, numbers_from}
 use Rattle.col_expr.specs.Meaning.{dtype_of}
-use Rattle.col_expr.specs.Plan.{Plan, interval_in, covering, bound_by, bound_of, formula_for, image_by, image_of, fits_type, is_slot_within, is_column_within, is_image_inside, is_kept_within, keeps_rule, rule_holds, rules_hold, ends_before}
-use Rattle.col_expr.specs.FoundPlan.{widened_by, spanned_by, is_fit, fitting, found_interval, entry_for, found_from, found_plan}
-use Rattle.col_types.specs.declared.operator.BinOp.{BinOp}
-use Rattle.col_expr.specs.declared.node.UnaryOp.{UnaryOp}
-use Rattle.col_expr.specs.declared.node.UnaryOp.TheVariants as operations
-use Rattle.col_expr.specs.declared.part.Part.{Part}
-use Rattle.col_expr.specs.Node.{over}
-use Rattle.col_expr.specs.PlanNode.{operation_dtype, operation_image, pair_dtype, pair_image, part_dtype, part_bound, image_dtype, image_interval, column_dtype, IsFoundPart, IsCovered}
-use Rattle.col_expr.proofs.PlanNodeLemmas.{dtype-over}
-use Rattle.col_expr.proofs.FormulaLemmas.{value_whole, column_valid}
+use Rattle.col_expr.specs.Plan.{Plan, interval_in, covering, bound_by, bound_of, formula_for}
+use Rattle.col_expr.specs.Plan.{image_by, image_of, fits_type, is_image_inside, is_kept_within}
+use Rattle.col_expr.specs.Plan.{keeps_rule, rule_holds, rules_hold, ends_before}
+use Rattle.col_expr.specs.FoundPlan.{spanned_by, is_fit, fitting, found_interval, entry_for}
+use Rattle.col_expr.specs.FoundPlan.{found_from, found_plan}
+use Rattle.col_expr.proofs.SpanLemmas.{inside_itself, column_holds}
 use Rattle.col_expr.specs.PlanLaws.{FoundPlansAreValid}
 
 -- ---- numbers of plans
@@ -33,14 +28,6 @@ use Rattle.col_expr.specs.PlanLaws.{FoundPlansAreValid}
 -- each covered number is this or more
 abbrev starts_at : Plan → ℕ → Bool
 starts_at plan first = list_all (λ covered. nat_le first covered.0) plan
-
-append_nil : (plan : Plan) → plan ++ [] ≡ plan
-append_nil [] = refl
-append_nil (c ∷ plan) = ap (λ p. c ∷ p) (append_nil plan)
-
-and-assoc : (a b c : Bool) → ((a && b) && c) ≡ (a && (b && c))
-and-assoc true b c = refl
-and-assoc false b c = refl
 
 pub ends-append : (a b : Plan) (k : ℕ) → ends_before a k ≡ true → ends_before b k ≡ true → ends_before (a ++ b) k ≡ true
 ends-append [] b k h g = g
@@ -267,13 +254,6 @@ fitting_there dtype (Some p) range e = by_test (is_fit dtype p) refl e
         (e, ap (fits_type dtype) (sym same) ∙ parts.0, ap (λ (q : Interval). int_le q.low q.high) (sym same) ∙ parts.1)
     by_test false h e = cc
 
--- an interval with an integer lies in itself
-inside_itself : (range : Interval) → int_le range.low range.high ≡ true → is_inside range range ≡ true
-inside_itself range h =
-    let least : int_le range.low range.low ≡ true = le_true range.low range.low (omega (arith, ints)) in
-    let greatest : int_le range.high range.high ≡ true = le_true range.high range.high (omega (arith, ints)) in
-    and_from _ _ (and_from _ _ least h) (and_from _ _ h greatest)
-
 -- the rule of a node that has the interval that is found, by what that interval was made of
 keeps_found : (inputs : List Column) (plan : Plan) (numbers : Numbers) (tree : Tree) (image : Option Interval) → interval_in plan (number_at numbers) ≡ fitting (dtype_of inputs tree) image
     → ((range : Interval) → image ≡ Some range → int_le range.low range.high ≡ true → is_kept_within inputs plan numbers tree range ≡ true) → rule_holds inputs plan numbers tree ≡ true
@@ -292,63 +272,11 @@ bound-found inputs plan numbers tree h = ap (λ o. bound_by o (dtype_of inputs t
 image_keeps : (image : Option Interval) (range : Interval) → image ≡ Some range → int_le range.low range.high ≡ true → is_image_inside range image ≡ true
 image_keeps image range e h = ap (is_image_inside range) e ∙ inside_itself range h
 
--- ---- inputs
-
-no_bytes : {P : Type 0} (b : List ℕ) → ((x : ℤ) × (Flat (Bytes b) ≡ whole x)) → P
-no_bytes b (x, e) = cc
-
-no_leaves : {P : Type 0} (leaves : List (Option Leaf)) → ((x : ℤ) × (Nested leaves ≡ whole x)) → P
-no_leaves leaves (x, e) = cc
-
--- an interval that was widened holds what it held, and each slot
-record Holds (range p : Interval) (slots : List (Option Value)) : Type 0 where
-  low : range.low ≤ℤ p.low
-  high : p.high ≤ℤ range.high
-  slots_in : list_all (is_slot_within range) slots ≡ true
-
-widened_holds : (slots : List (Option Value)) (dtype : DataType) (p range : Interval) → list_all (is_slot_of dtype) slots ≡ true → widened_by (Some p) slots ≡ Some range → Holds range p slots
-widened_holds [] dtype p range all e =
-    let same : p ≡ range = cc in
-    let P : Interval → Type 0 = λ r. Holds r p [] in
-    subst P same (record { low = omega (arith, ints); high = omega (arith, ints); slots_in = refl })
-widened_holds (None ∷ slots) dtype p range all e =
-    let H = widened_holds slots dtype p range all e in
-    record { low = H.low; high = H.high; slots_in = H.slots_in }
-widened_holds (Some (Flat (Whole x)) ∷ slots) dtype p range all e =
-    let parts = and_parts (is_slot_of dtype (Some (Flat (Whole x)))) (list_all (is_slot_of dtype) slots) all in
-    let H = widened_holds slots dtype (record { low = int_min p.low x; high = int_max p.high x }) range parts.1 e in
-    let low : range.low ≤ℤ x = omega (arith, ints, clamps, H.low) in
-    let high : x ≤ℤ range.high = omega (arith, ints, clamps, H.high) in
-    record {
-      low = omega (arith, ints, clamps, H.low);
-      high = omega (arith, ints, clamps, H.high);
-      slots_in = and_from _ _ (is_within-true range x (record { low = low; high = high })) H.slots_in;
-    }
-widened_holds (Some (Flat (Bytes b)) ∷ slots) dtype p range all e = no_bytes b (value_whole (values_of dtype) (Flat (Bytes b)) (and_parts (is_slot_of dtype (Some (Flat (Bytes b)))) (list_all (is_slot_of dtype) slots) all).0)
-widened_holds (Some (Nested leaves) ∷ slots) dtype p range all e = no_leaves leaves (value_whole (values_of dtype) (Nested leaves) (and_parts (is_slot_of dtype (Some (Nested leaves))) (list_all (is_slot_of dtype) slots) all).0)
-
-spanned_holds : (slots : List (Option Value)) (dtype : DataType) (range : Interval) → list_all (is_slot_of dtype) slots ≡ true → widened_by None slots ≡ Some range → list_all (is_slot_within range) slots ≡ true
-spanned_holds [] dtype range all e = refl
-spanned_holds (None ∷ slots) dtype range all e = spanned_holds slots dtype range all e
-spanned_holds (Some (Flat (Whole x)) ∷ slots) dtype range all e =
-    let parts = and_parts (is_slot_of dtype (Some (Flat (Whole x)))) (list_all (is_slot_of dtype) slots) all in
-    let H = widened_holds slots dtype (record { low = x; high = x }) range parts.1 e in
-    and_from _ _ (is_within-true range x (record { low = H.low; high = H.high })) H.slots_in
-spanned_holds (Some (Flat (Bytes b)) ∷ slots) dtype range all e = no_bytes b (value_whole (values_of dtype) (Flat (Bytes b)) (and_parts (is_slot_of dtype (Some (Flat (Bytes b)))) (list_all (is_slot_of dtype) slots) all).0)
-spanned_holds (Some (Nested leaves) ∷ slots) dtype range all e = no_leaves leaves (value_whole (values_of dtype) (Nested leaves) (and_parts (is_slot_of dtype (Some (Nested leaves))) (list_all (is_slot_of dtype) slots) all).0)
-
-column_holds : (inputs : List Column) → All IsValidColumn inputs → (index : ℕ) (range : Interval) → spanned_by (slice_get inputs index) ≡ Some range → is_column_within range (slice_get inputs index) ≡ true
-column_holds inputs all index range e = go (slice_get inputs index) refl e
-  where
-    go : (o : Option Column) → slice_get inputs index ≡ o → spanned_by o ≡ Some range → is_column_within range o ≡ true
-    go None at e = cc
-    go (Some column) at e = spanned_holds column.slots column.dtype range (column_valid inputs index column all at).values e
-
 -- ---- the induction
 
 found_rules : (inputs : List Column) (plan : Plan) → All IsValidColumn inputs → (tree : Tree) (numbers : Numbers) → LooksUp inputs plan numbers tree → rules_hold inputs plan numbers tree ≡ true
 found_rules inputs plan all (Input index) numbers h =
-    keeps_found inputs plan numbers (Input index) (spanned_by (slice_get inputs index)) h (λ range e ordered. column_holds inputs all index range e)
+    keeps_found inputs plan numbers (Input index) (spanned_by (slice_get inputs index)) h (column_holds inputs all index)
 found_rules inputs plan all (Cast e t o) numbers h =
     let bound = bound-found inputs plan (below numbers) e h.0 in
     let f = formula_for inputs (Cast e t o) in
@@ -392,138 +320,3 @@ found_plans_are_valid inputs tree all =
     let plan = found_plan inputs tree in
     let ends : ends_before plan (node_count tree) ≡ true = ap (ends_before plan) (sym (zero-add (node_count tree))) ∙ found-ends inputs tree 0 in
     and_from _ _ (found_rules inputs plan all tree (numbers_from 0 tree) (looks_up inputs plan tree 0 (λ n le lt. refl))) ends
-
--- ---- what the code finds
-
-fitting-untyped : (o : Option Interval) → fitting None o ≡ None
-fitting-untyped None = refl
-fitting-untyped (Some range) = refl
-
--- the interval of an image is the one that is found, where there is a type
-fitting-image : (image : Option (DataType × Option Interval)) (dtype : Option DataType) (p : Option Interval) → image_dtype image ≡ dtype → IfSome image (λ typed. typed.1 ≡ p) → fitting (image_dtype image) (image_interval image) ≡ fitting dtype p
-fitting-image None dtype p e h = sym (ap (λ d. fitting d p) (sym e) ∙ fitting-untyped p)
-fitting-image (Some typed) dtype p e h = ap (fitting (Some typed.0)) h ∙ ap (λ d. fitting d p) e
-
--- a part that is covered by its image, by what is found for its tree
-covered_found : (inputs : List Column) (tree : Tree) (image : Option (DataType × Option Interval)) (p : Option Interval) (part : Part) → image_dtype image ≡ dtype_of inputs tree → IfSome image (λ typed. typed.1 ≡ p)
-    → found_interval inputs tree ≡ fitting (dtype_of inputs tree) p → IsCovered image part → IsFoundPart inputs tree part
-covered_found inputs tree image p part typed imaged found covered =
-    let same : fitting (image_dtype image) (image_interval image) ≡ found_interval inputs tree = fitting-image image (dtype_of inputs tree) p typed imaged ∙ sym found in
-    record {
-      typed = covered.typed ∙ typed;
-      bounded = covered.bounded ∙ ap (λ o. bound_by o (image_dtype image)) same ∙ ap (bound_by (found_interval inputs tree)) typed;
-      known = covered.known;
-    }
-
-found-over : (inputs : List Column) (op : UnaryOp) (e : Tree) → found_interval inputs (over op e) ≡ fitting (dtype_of inputs (over op e)) (operation_image op (dtype_of inputs e) (bound_by (found_interval inputs e) (dtype_of inputs e)))
-found-over inputs (operations.Cast t o) e = refl
-found-over inputs (operations.ScalarRight op k) e = refl
-found-over inputs (operations.ScalarLeft k op) e = refl
-found-over inputs (operations.InUnit u) e = refl
-found-over inputs (operations.Shift p) e = refl
-
-from-over : (inputs : List Column) (first : ℕ) (op : UnaryOp) (e : Tree) → found_from inputs (numbers_from first (over op e)) (over op e) ≡ found_from inputs (numbers_from first e) e ++ entry_for (first + node_count e) (found_interval inputs (over op e))
-from-over inputs first (operations.Cast t o) e = refl
-from-over inputs first (operations.ScalarRight op k) e = refl
-from-over inputs first (operations.ScalarLeft k op) e = refl
-from-over inputs first (operations.InUnit u) e = refl
-from-over inputs first (operations.Shift p) e = refl
-
--- an operation over a part that is found
-pub record UnaryFound (inputs : List Column) (op : UnaryOp) (e : Tree) (below : Part) (image : Option (DataType × Option Interval)) : Type 0 where
-  pub part : (part : Part) → IsCovered image part → IsFoundPart inputs (over op e) part
-  pub fits : fitting (image_dtype image) (image_interval image) ≡ found_interval inputs (over op e)
-
-pub unary_found : (inputs : List Column) (op : UnaryOp) (e : Tree) (below : Part) (image : Option (DataType × Option Interval)) → IsFoundPart inputs e below → image_dtype image ≡ operation_dtype op (part_dtype below)
-    → IfSome image (λ typed. typed.1 ≡ operation_image op (part_dtype below) (part_bound below)) → UnaryFound inputs op e below image
-unary_found inputs op e below image is typed imaged =
-    let t : image_dtype image ≡ dtype_of inputs (over op e) = typed ∙ ap (operation_dtype op) is.typed ∙ sym (dtype-over inputs op e) in
-    let p = operation_image op (part_dtype below) (part_bound below) in
-    let same : p ≡ operation_image op (dtype_of inputs e) (bound_by (found_interval inputs e) (dtype_of inputs e)) =
-    ap (λ d. operation_image op d (part_bound below)) is.typed ∙ ap (operation_image op (dtype_of inputs e)) is.bounded in
-    let found : found_interval inputs (over op e) ≡ fitting (dtype_of inputs (over op e)) p = found-over inputs op e ∙ ap (fitting (dtype_of inputs (over op e))) (sym same) in
-    record {
-      part = λ part covered. covered_found inputs (over op e) image p part t imaged found covered;
-      fits = fitting-image image (dtype_of inputs (over op e)) p t imaged ∙ sym found;
-    }
-
-pub unary_plan : (inputs : List Column) (first number : ℕ) (op : UnaryOp) (e : Tree) (old mid new : Plan) (o : Option Interval) → number ≡ first + node_count e → mid ≡ old ++ found_from inputs (numbers_from first e) e
-    → o ≡ found_interval inputs (over op e) → new ≡ mid ++ entry_for number o → new ≡ old ++ found_from inputs (numbers_from first (over op e)) (over op e)
-unary_plan inputs first number op e old mid new o is at same last =
-    last ∙ ap (λ p. p ++ entry_for number o) at ∙ ap (λ n. (old ++ found_from inputs (numbers_from first e) e) ++ entry_for n o) is
-    ∙ ap (λ i. (old ++ found_from inputs (numbers_from first e) e) ++ entry_for (first + node_count e) i) same
-    ∙ append_assoc old (found_from inputs (numbers_from first e) e) (entry_for (first + node_count e) (found_interval inputs (over op e)))
-    ∙ ap (λ p. old ++ p) (sym (from-over inputs first op e))
-
-pub plan_ends : (inputs : List Column) (first number : ℕ) (e : Tree) (old mid : Plan) → number ≡ first + node_count e → mid ≡ old ++ found_from inputs (numbers_from first e) e → ends_before old first ≡ true → ends_before mid number ≡ true
-plan_ends inputs first number e old mid is at h =
-    ap (λ p. ends_before p number) at ∙ ap (ends_before (old ++ found_from inputs (numbers_from first e) e)) is
-    ∙ ends-append old (found_from inputs (numbers_from first e) e) (first + node_count e) (ends-more old first (first + node_count e) (omega arith) h) (found-ends inputs e first)
-
-pub record BinaryFound (inputs : List Column) (op : BinOp) (l r : Tree) (image : Option (DataType × Option Interval)) : Type 0 where
-  pub part : (part : Part) → IsCovered image part → IsFoundPart inputs (Binary op l r) part
-  pub fits : fitting (image_dtype image) (image_interval image) ≡ found_interval inputs (Binary op l r)
-
-pub binary_found : (inputs : List Column) (op : BinOp) (l r : Tree) (left right : Part) (image : Option (DataType × Option Interval)) → IsFoundPart inputs l left → IsFoundPart inputs r right
-    → image_dtype image ≡ pair_dtype op (part_dtype left) (part_dtype right) → IfSome image (λ typed. typed.1 ≡ pair_image op (part_dtype left) (part_dtype right) (part_bound left) (part_bound right)) → BinaryFound inputs op l r image
-binary_found inputs op l r left right image lis ris typed imaged =
-    let t : image_dtype image ≡ dtype_of inputs (Binary op l r) = typed ∙ ap (λ d. pair_dtype op d (part_dtype right)) lis.typed ∙ ap (pair_dtype op (dtype_of inputs l)) ris.typed in
-    let p = pair_image op (part_dtype left) (part_dtype right) (part_bound left) (part_bound right) in
-    let lb = bound_by (found_interval inputs l) (dtype_of inputs l) in
-    let rb = bound_by (found_interval inputs r) (dtype_of inputs r) in
-    let same : p ≡ pair_image op (dtype_of inputs l) (dtype_of inputs r) lb rb =
-    ap (λ d. pair_image op d (part_dtype right) (part_bound left) (part_bound right)) lis.typed
-    ∙ ap (λ d. pair_image op (dtype_of inputs l) d (part_bound left) (part_bound right)) ris.typed
-    ∙ ap (λ b. pair_image op (dtype_of inputs l) (dtype_of inputs r) b (part_bound right)) lis.bounded
-    ∙ ap (pair_image op (dtype_of inputs l) (dtype_of inputs r) lb) ris.bounded in
-    let found : found_interval inputs (Binary op l r) ≡ fitting (dtype_of inputs (Binary op l r)) p = ap (fitting (dtype_of inputs (Binary op l r))) (sym same) in
-    record {
-      part = λ part covered. covered_found inputs (Binary op l r) image p part t imaged found covered;
-      fits = fitting-image image (dtype_of inputs (Binary op l r)) p t imaged ∙ sym found;
-    }
-
-pub binary_plan : (inputs : List Column) (first second number : ℕ) (op : BinOp) (l r : Tree) (old one mid new : Plan) (o : Option Interval) → second ≡ first + node_count l → number ≡ second + node_count r
-    → one ≡ old ++ found_from inputs (numbers_from first l) l → mid ≡ one ++ found_from inputs (numbers_from second r) r → o ≡ found_interval inputs (Binary op l r) → new ≡ mid ++ entry_for number o
-    → new ≡ old ++ found_from inputs (numbers_from first (Binary op l r)) (Binary op l r)
-binary_plan inputs first second number op l r old one mid new o next is at1 at2 same last =
-    let a = found_from inputs (numbers_from first l) l in
-    let b = found_from inputs (numbers_from (first + node_count l) r) r in
-    let entry = entry_for (first + node_count l + node_count r) (found_interval inputs (Binary op l r)) in
-    let is' : number ≡ first + node_count l + node_count r = is ∙ ap (λ n. n + node_count r) next in
-    last ∙ ap (λ p. p ++ entry_for number o) (at2 ∙ ap (λ q. q ++ found_from inputs (numbers_from second r) r) at1 ∙ ap (λ n. (old ++ a) ++ found_from inputs (numbers_from n r) r) next)
-    ∙ ap (λ n. ((old ++ a) ++ b) ++ entry_for n o) is' ∙ ap (λ i. ((old ++ a) ++ b) ++ entry_for (first + node_count l + node_count r) i) same
-    ∙ append_assoc (old ++ a) b entry ∙ append_assoc old a (b ++ entry)
-
-pub input_found : (inputs : List Column) (index : ℕ) (column : Option Column) (image : Option (DataType × Option Interval)) (part : Part) → column ≡ slice_get inputs index → image_dtype image ≡ column_dtype column
-    → image_interval image ≡ spanned_by column → IsCovered image part → IsFoundPart inputs (Input index) part
-input_found inputs index column image part at typed imaged covered =
-    let t : image_dtype image ≡ dtype_of inputs (Input index) = typed ∙ ap column_dtype at in
-    let found : fitting (image_dtype image) (image_interval image) ≡ found_interval inputs (Input index) =
-    ap (fitting (image_dtype image)) (imaged ∙ ap spanned_by at) ∙ ap (λ d. fitting d (spanned_by (slice_get inputs index))) t in
-    record {
-      typed = covered.typed ∙ t;
-      bounded = covered.bounded ∙ ap (λ o. bound_by o (image_dtype image)) found ∙ ap (bound_by (found_interval inputs (Input index))) t;
-      known = covered.known;
-    }
-
-pub input_fits : (inputs : List Column) (index : ℕ) (column : Option Column) (image : Option (DataType × Option Interval)) → column ≡ slice_get inputs index → image_dtype image ≡ column_dtype column → image_interval image ≡ spanned_by column
-    → fitting (image_dtype image) (image_interval image) ≡ found_interval inputs (Input index)
-input_fits inputs index column image at typed imaged =
-    ap (fitting (image_dtype image)) (imaged ∙ ap spanned_by at) ∙ ap (λ d. fitting d (spanned_by (slice_get inputs index))) (typed ∙ ap column_dtype at)
-
-pub on_some : {X : Type 0} {P Q : Type 0} (o : Option X) → (P → Q) → OnSome o P → OnSome o Q
-on_some None f h = h
-on_some (Some x) f h = f h
-
-pub if_some : {X : Type 0} {P Q : X → Type 0} (o : Option X) → ((x : X) → P x → Q x) → IfSome o P → IfSome o Q
-if_some None f h = h
-if_some (Some x) f h = f x h
-
-pub input_plan : (inputs : List Column) (first number index : ℕ) (column : Option Column) (image : Option (DataType × Option Interval)) (old new : Plan) (result : Option Part) → number ≡ first → column ≡ slice_get inputs index
-    → image_dtype image ≡ column_dtype column → image_interval image ≡ spanned_by column → ends_before old first ≡ true
-    → (ends_before old number ≡ true → OnSome result (new ≡ old ++ entry_for number (fitting (image_dtype image) (image_interval image))))
-    → OnSome result (new ≡ old ++ found_from inputs (numbers_from first (Input index)) (Input index))
-input_plan inputs first number index column image old new result is at typed imaged ends covered =
-    on_some result (λ last. last ∙ ap (λ n. old ++ entry_for n (fitting (image_dtype image) (image_interval image))) is
-    ∙ ap (λ o. old ++ entry_for first o) (input_fits inputs index column image at typed imaged))
-    (covered (ap (ends_before old) is ∙ ends))

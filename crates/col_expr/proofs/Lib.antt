@@ -17,4 +17,7 @@ pub mod PlanNodeLemmas
 pub mod FormulaLemmas
 pub mod PlanKeptLemmas
 pub mod FoldRules
+pub mod SpanLemmas
 pub mod FoundPlanLemmas
+pub mod FoundNodeLemmas
+pub mod ChunkLemmas

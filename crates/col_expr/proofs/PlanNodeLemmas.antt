@@ -1,7 +1,7 @@
 -- What is found of a node, from what is found of its operands; and how plans keep their order.
-use Rattle.std.proofs.Common.{◌≡◌, ℕ, ℤ, zero, suc, ◌+◌, ◌≤◌, ◌<◌, List, [], ◌∷◌, Bool, true, false, ◌&&◌, Option, Some, None, map, refl, sym, ap, ◌∙◌, subst, arith, Ordering, Less, Equal, Greater}
+use Rattle.std.proofs.Common.{◌≡◌, ℕ, zero, suc, ◌+◌, ◌≤◌, ◌<◌, List, [], ◌∷◌, Bool, true, false, ◌&&◌, Option, Some, None, refl, sym, ap, ◌∙◌, subst, arith, Ordering, Less, Equal, Greater}
 use Rattle.std.specs.Prelude.{slice_get, nat_lt, IfSome}
-use Rattle.std.specs.List.{list_all, All}
+use Rattle.std.specs.List.{All}
 use Rattle.std.specs.Option.{option_map, ok_or}
 use Rattle.std.specs.Result.{result_ok}
 use Rattle.std.specs.Map.{keys_of}
@@ -9,7 +9,6 @@ use Rattle.std.specs.BTreeMap.{insert_entry, is_at}
 use Rattle.std.specs.Ordering.{nat_cmp, is_lt, match_ordering}
 use Rattle.std.proofs.lemmas.List.Elements.{All-head, All-tail, All-cons}
 use Rattle.std.proofs.lemmas.Map.Entries.{All-lookup}
-use Rattle.col_model.specs.Value.{integer_slot}
 use Rattle.std.proofs.lemmas.Bool.Decides.{nat_tests}
 use Rattle.std.proofs.lemmas.Bool.{and_from}
 use Rattle.col_types.specs.declared.data_type.DataType.{DataType}
@@ -25,10 +24,10 @@ use Rattle.col_expr.specs.declared.node.UnaryOp.{UnaryOp}
 use Rattle.col_expr.specs.declared.node.UnaryOp.TheVariants as operations
 use Rattle.col_expr.specs.declared.part.Part.{Part}
 use Rattle.col_expr.specs.Tree.{Tree, Input, Binary, node_count}
-use Rattle.col_expr.specs.Numbers.{Numbers, One, number_at, below, numbers_from}
+use Rattle.col_expr.specs.Numbers.{Numbers, One, number_at, numbers_from}
 use Rattle.col_expr.specs.Node.{over}
 use Rattle.col_expr.specs.Meaning.{dtype_of, rule_dtype}
-use Rattle.col_expr.specs.Plan.{Plan, interval_in, covering, is_slot_within, bound_by, bound_of, image_by, image_of, rule_formula, keeps_rule, rule_holds, rules_hold, ends_before}
+use Rattle.col_expr.specs.Plan.{Plan, interval_in, covering, bound_by, bound_of, image_by, image_of, rule_formula, keeps_rule, rule_holds, rules_hold, ends_before}
 use Rattle.col_expr.specs.PlanNode.{operation_dtype, operation_image, pair_dtype, pair_image, keeps_image, keeps_column, part_dtype, part_bound, image_dtype, image_interval, IsSettledBy, IsPart, IsChecked, IsInput, IsCoverOrdered}
 
 -- ---- plans
@@ -83,11 +82,6 @@ looked_up plan node range all e =
     let found : IfSome (interval_in plan node) IsOrdered = All-lookup IsOrdered (is_at (nat_cmp node)) plan all in
     let P : Option Interval → Type 0 = λ o. IfSome o IsOrdered in
     subst P e found
-
--- slots as they are kept
-pub slots_within : (range : Interval) (ticks : List (Option ℤ)) → list_all (λ tick. is_slot_within range (integer_slot tick)) ticks ≡ list_all (is_slot_within range) (map integer_slot ticks)
-slots_within range [] = refl
-slots_within range (tick ∷ ticks) = ap (λ b. is_slot_within range (integer_slot tick) && b) (slots_within range ticks)
 
 -- ---- operators
 

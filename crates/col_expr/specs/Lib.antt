@@ -10,8 +10,10 @@ pub mod Found
 pub mod Laws
 pub mod Plan
 pub mod FoundPlan
+pub mod Span
 pub mod PlanNode
 pub mod PlanLaws
 pub mod Folded
 pub mod FoldLaws
+pub mod ChunkLaws
 pub mod Waiting

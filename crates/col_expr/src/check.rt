@@ -1,15 +1,13 @@
 // The check of a plan.
 ghost use Rattle.std.specs.Prelude.{◌≡◌, ◌+◌, ◌≤◌, true, Some, None, OnSome, IfSome};
-ghost use Rattle.std.specs.List.{list_all};
 ghost use Rattle.std.specs.Option.{option_copied, option_map};
 ghost use Rattle.col_model.specs.Chunked.{columns_of, column_of};
-ghost use Rattle.col_model.specs.Value.{integer_slot};
 ghost use Rattle.col_model.specs.IntervalRoom.{IsOrdered};
 ghost use Rattle.col_expr.specs.Tree.{node_count, Input, max_nodes};
 ghost use Rattle.col_expr.specs.Numbers.{numbers_from};
 ghost use Rattle.col_expr.specs.Node.{node_tree};
 ghost use Rattle.col_expr.specs.Built.{is_built_tree};
-ghost use Rattle.col_expr.specs.Plan.{is_plan_valid, is_slot_within, is_column_within};
+ghost use Rattle.col_expr.specs.Plan.{is_plan_valid, is_column_within};
 ghost use Rattle.col_expr.specs.PlanNode.{IsChecked, IsInput};
 
 use crate::evaluation::take_number;
@@ -19,6 +17,7 @@ use crate::node::Node;
 use crate::node_image::{binary_image, copied, unary_image};
 use crate::part::{Part, fits_type, settled, values_of};
 use crate::plan::RangePlan;
+use crate::span::{is_span_within, span_of};
 use col_model::Interval;
 use col_series::Series;
 
@@ -68,28 +67,12 @@ fn check_node(node: &Node, inputs: &Inputs, plan: &RangePlan, next: &mut u32) ->
     }
 }
 
-// Whether a tick is null or lies in the interval.
-fn is_tick_within(range: Interval, tick: Option<i64>) -> bool
-    ensures within { result ≡ is_slot_within range (integer_slot tick) }
-{
-    match tick {
-        Some(tick) => range.contains(i128::from(tick)),
-        None => true,
-    }
-}
-
-// Whether each tick is null or lies in the interval.
-fn are_ticks_within(range: Interval, ticks: &[Option<i64>]) -> bool
-    ensures within { result ≡ list_all (λ tick. is_slot_within range (integer_slot tick)) ticks.now }
-{
-    ticks.iter().all(|tick| is_tick_within(range, *tick))
-}
-
-// Whether each valid slot of a column lies in the interval.
+// Whether each valid slot of a column lies in the interval, as its least and its greatest tell.
 fn is_column_within(range: Interval, column: &Series) -> bool
     ensures within { result ≡ is_column_within range (Some column.now.column) }
 {
-    are_ticks_within(range, column.ticks())
+    column.known();
+    is_span_within(range, span_of(column))
 }
 
 // A column, bounded by the plan.

@@ -1,8 +1,7 @@
 // The plan that the columns themselves give.
-ghost use Rattle.std.specs.Prelude.{◌≡◌, ◌+◌, ◌≤◌, ◌++◌, true, Ok, Some, None, OnSome, IfSome, map};
+ghost use Rattle.std.specs.Prelude.{◌≡◌, ◌+◌, ◌≤◌, ◌++◌, true, Ok, Some, None, OnSome, IfSome};
 ghost use Rattle.std.specs.Option.{option_copied, option_map};
 ghost use Rattle.col_types.specs.PolarsError.{Gives};
-ghost use Rattle.col_model.specs.Value.{integer_slot};
 ghost use Rattle.col_model.specs.Chunked.{column_of, columns_of};
 ghost use Rattle.col_model.specs.Column.{is_built_type};
 ghost use Rattle.col_expr.specs.Tree.{node_count, max_nodes};
@@ -10,7 +9,7 @@ ghost use Rattle.col_expr.specs.Numbers.{numbers_from};
 ghost use Rattle.col_expr.specs.Node.{node_tree};
 ghost use Rattle.col_expr.specs.Built.{is_built_tree};
 ghost use Rattle.col_expr.specs.Plan.{ends_before, bound_by};
-ghost use Rattle.col_expr.specs.FoundPlan.{widened, widened_by, spanned_by};
+ghost use Rattle.col_expr.specs.FoundPlan.{spanned_by};
 ghost use Rattle.col_expr.specs.FoundPlan.{is_fit, fitting, entry_for, found_from, found_plan};
 ghost use Rattle.col_expr.specs.PlanNode.{IsFoundPart, IsCovered, IsImageBuilt, IsKnown, HasRoom};
 ghost use Rattle.col_expr.specs.PlanNode.{image_dtype, image_interval, column_dtype};
@@ -23,6 +22,7 @@ use crate::node::Node;
 use crate::node_image::{binary_image, copied, unary_image};
 use crate::part::{Part, fits_type, values_of};
 use crate::plan::RangePlan;
+use crate::span::span_of;
 use col_model::Interval;
 use col_series::Series;
 use col_types::{DataType, PolarsError, PolarsResult};
@@ -155,31 +155,6 @@ fn covered(
     }
 }
 
-// An interval and one more tick.
-fn widened(range: Option<Interval>, tick: Option<i64>) -> Option<Interval>
-    ensures range { result ≡ widened range (integer_slot tick) }
-{
-    match (range, tick) {
-        (Some(range), Some(tick)) => {
-            let tick = i128::from(tick);
-            Some(Interval::new(range.low().min(tick), range.high().max(tick)))
-        }
-        (None, Some(tick)) => Some(Interval::new(i128::from(tick), i128::from(tick))),
-        (range, None) => range,
-    }
-}
-
-// From the least to the greatest tick, none where none is valid.
-fn spanned(ticks: &[Option<i64>]) -> Option<Interval>
-    ensures range { result ≡ widened_by None (map integer_slot ticks.now) }
-{
-    let mut range = None;
-    for tick in ticks {
-        range = widened(range, *tick);
-    }
-    range
-}
-
 // The type of a column, and from its least to its greatest valid slot.
 fn input_image(column: Option<&Series>) -> Option<(DataType, Option<Interval>)>
     ensures typed { image_dtype result ≡
@@ -191,7 +166,7 @@ fn input_image(column: Option<&Series>) -> Option<(DataType, Option<Interval>)>
     match column {
         Some(column) => {
             column.known();
-            Some((copied(column.dtype()), spanned(column.ticks())))
+            Some((copied(column.dtype()), span_of(column)))
         }
         None => None,
     }

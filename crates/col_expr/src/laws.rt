@@ -13,6 +13,7 @@ ghost use Rattle.col_expr.specs.Laws.{
   TreesReadBack,
   OneTreeFits,
 };
+ghost use Rattle.col_expr.specs.ChunkLaws.{ChunksDontMatter};
 
 /// The recursion that finds the first refused node agrees with a search through the list of all
 /// nodes in postfix order.
@@ -44,4 +45,11 @@ pub fn refusals_name_their_node()
 pub fn one_tree_fits()
     ensures read_back { TreesReadBack }
     ensures only { OneTreeFits }
+{}
+
+/// Chunks don't matter: over columns that are equal and differ in their chunks alone, `evaluate`
+/// and `evaluate_folded` answer equal columns or refuse the same node for the same cause, unless
+/// memory is wanting. They take as many steps, the same plans are valid, and the same one is found.
+pub fn chunks_do_not_matter()
+    ensures law { ChunksDontMatter }
 {}

@@ -16,6 +16,7 @@ mod operations;
 mod part;
 mod plan;
 mod plan_laws;
+mod span;
 mod steps;
 mod waiting;
 
@@ -29,8 +30,8 @@ pub use fold_laws::{folding_changes_no_answer, known_folds, rules_of_folding};
 pub use folded::evaluate_folded;
 pub use inputs::Inputs;
 pub use laws::{
-    defined_up_to_the_first_refusal, one_tree_fits, refusals_in_postfix_order,
-    refusals_name_their_node,
+    chunks_do_not_matter, defined_up_to_the_first_refusal, one_tree_fits,
+    refusals_in_postfix_order, refusals_name_their_node,
 };
 pub use node::UnaryOp;
 pub use plan::RangePlan;

@@ -94,7 +94,10 @@ with_words f chunked = record chunked { column = mapped_column f Int64 chunked.c
 abbrev pub times_of : Chunked → Chunked
 times_of chunked = with_words (fitting_value day_values) chunked
 
--- ticks of a unit in another one, by what they become in a change of unit
+-- a tick of a unit in another one, by what becomes of it in a change of unit
+abbrev pub tick_in_unit : (UnitChange → Formula → Formula) → TimeUnit → TimeUnit → ℤ → Option ℤ
+tick_in_unit changed from to x = value_of (changed (unit_change from to) X) x x
+
+-- each tick of a unit in another one
 abbrev pub in_unit : (UnitChange → Formula → Formula) → TimeUnit → TimeUnit → Chunked → Chunked
-in_unit changed from to chunked =
-    with_words (λ x. value_of (changed (unit_change from to) X) x x) chunked
+in_unit changed from to chunked = with_words (tick_in_unit changed from to) chunked

@@ -9,7 +9,7 @@ ghost use Rattle.col_model.specs.OperatorCalls.{in_unit_of};
 ghost use Rattle.col_logical.specs.Logical.{retyped, unit_of, with_unit, with_zone, zone_in};
 
 use crate::changes::in_unit;
-use crate::rules::Moments;
+use crate::rules::WrappedMoments;
 use crate::{DatetimeChunked, Logical};
 use col_types::{DataType, PolarsResult, TimeUnit, TimeZone};
 use std::alloc::Global;
@@ -74,10 +74,13 @@ impl DatetimeChunked {
             ≡ self.now.chunk_lengths) }
     {
         match &self.dtype {
-            DataType::Datetime(old, zone) => match in_unit::<Moments>(
+            DataType::Datetime(old, zone) => match in_unit::<WrappedMoments>(
                 alloc, &self.phys, *old, unit,
             ) {
-                Ok(phys) => Ok(Logical::new_logical(phys, DataType::Datetime(unit, *zone))),
+                Ok(changed) => Ok(Logical::new_logical(
+                    changed.array,
+                    DataType::Datetime(unit, *zone),
+                )),
                 Err(refusal) => Err(refusal),
             },
             _ => unreachable!(),

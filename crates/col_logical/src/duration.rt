@@ -7,7 +7,7 @@ ghost use Rattle.col_model.specs.OperatorCalls.{in_unit_of};
 ghost use Rattle.col_logical.specs.Logical.{retyped, unit_of, with_unit};
 
 use crate::changes::in_unit;
-use crate::rules::Lengths;
+use crate::rules::WrappedLengths;
 use crate::{DurationChunked, Logical};
 use col_types::{DataType, PolarsResult, TimeUnit};
 use std::alloc::Global;
@@ -38,8 +38,10 @@ impl DurationChunked {
             ≡ self.now.chunk_lengths) }
     {
         match &self.dtype {
-            DataType::Duration(old) => match in_unit::<Lengths>(alloc, &self.phys, *old, unit) {
-                Ok(phys) => Ok(Logical::new_logical(phys, DataType::Duration(unit))),
+            DataType::Duration(old) => match in_unit::<WrappedLengths>(
+                alloc, &self.phys, *old, unit,
+            ) {
+                Ok(changed) => Ok(Logical::new_logical(changed.array, DataType::Duration(unit))),
                 Err(refusal) => Err(refusal),
             },
             _ => unreachable!(),

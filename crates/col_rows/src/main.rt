@@ -90,24 +90,17 @@ fn run_of<'a>(row: &'a Row, words: &'a str, plan: &'a str) -> Run<'a> {
 /// The row of `eval` by a script that is the row's but for the ends of chunks.
 fn cut_run_of<'a>(row: &'a Row, script: &'a str) -> Run<'a> {
     Run {
-        title: row.title.as_str(),
-        words: "eval",
-        plan: "",
         script,
-        status: row.status.as_str(),
-        answer: row.answer.as_str(),
+        ..run_of(row, "eval", "")
     }
 }
 
 /// The check of a plan for the row's script.
 fn check_of<'a>(row: &'a Row, plan: &'a str, answer: &'a str) -> Run<'a> {
     Run {
-        title: row.title.as_str(),
-        words: "check",
-        plan,
-        script: row.script.as_str(),
         status: "done",
         answer,
+        ..run_of(row, "check", plan)
     }
 }
 

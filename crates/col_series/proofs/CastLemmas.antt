@@ -1,119 +1,219 @@
--- The answers of a cast, over ticks.
-use Rattle.std.proofs.Common.{◌≡◌, ℕ, ℤ, Bool, true, false, List, map, Option, Some, None, Ok, Err, Result, refl, is_some, if◌then◌else◌}
+-- The answers of a cast, over words.
+use Rattle.std.proofs.Common.{◌≡◌, ◌<◌, ◌≤◌, ◌^◌, ◌+◌, ℕ, zero, suc, Bool, true, false, List, [], ◌∷◌, map, length, replicate, Option, Some, None, Ok, Err, Result, refl, sym, ap, is_some, is_none, if◌then◌else◌, arith, IfSome}
 use Rattle.std.specs.List.{list_all, list_any}
-use Rattle.std.proofs.lemmas.List.{length-map}
-use Rattle.col_types.specs.DataType.{kind_of, is_bad_target}
-use Rattle.col_types.specs.declared.data_type.DataType.{DataType}
+use Rattle.std.specs.Prelude.{fold, cond, nat_lt}
+use Rattle.std.proofs.lemmas.Bool.Decides.{nat_tests}
+use Rattle.std.proofs.lemmas.Bool.{false≢true}
+use Rattle.col_types.specs.DataType.{kind_of, is_bad_target, same_type}
+use Rattle.col_types.specs.declared.data_type.DataType.{DataType, Date, Datetime, Int64, Time}
+use Rattle.col_types.specs.declared.time_unit.TimeUnit.{TimeUnit}
+use Rattle.col_types.specs.PolarsError.{Gives, GivesBy}
 use Rattle.col_types.specs.declared.cast_options.CastOptions.{CastOptions}
+use Rattle.col_types.specs.declared.is_sorted.IsSorted.{IsSorted}
 use Rattle.col_types.specs.declared.is_sorted.IsSorted.TheVariants.{Not}
 use Rattle.col_types.specs.declared.error.PolarsError.{PolarsError}
 use Rattle.col_types.specs.declared.error.PolarsError.TheVariants as errors
-use Rattle.col_types.specs.PolarsError.{GivesBy}
-use Rattle.col_model.specs.Chunked.{column_of}
-use Rattle.col_model.specs.Value.{Value, integer_slot}
-use Rattle.col_model.specs.Column.{IsValidColumn}
-use Rattle.col_model.specs.CastTable.{CastRule, cast_rule, resolved_target}
-use Rattle.col_model.specs.ColumnCalls.{unless_refused, cast_slot, strict_refusal, is_built_target, cast_refusal, cast_of, cast_column, kept_flag}
-use Rattle.col_series.specs.declared.tick_rule.TickRule.{TickRule}
-use Rattle.col_series.specs.TickRule.{changed_tick, changed_ticks, cast_rule_of, first_lost_tick}
-use Rattle.col_series.specs.Slots.{is_fit, cast_slots, ticks_column}
+use Rattle.col_model.specs.Chunked.{Chunked, column_of, in_one_chunk}
+use Rattle.col_model.specs.ChunkCalls.{null_column, null_count}
+use Rattle.col_model.specs.Value.{Value}
+use Rattle.col_model.specs.Formula.{Formula, X, slot_by, value_of}
+use Rattle.col_model.specs.Column.{Column, IsValidColumn, is_slot_of}
+use Rattle.col_model.specs.CastTable.{CastRule, cast_rule, day_of, rising, time_of}
+use Rattle.col_model.specs.UnitChange.{datetime_in_unit, day_in_unit}
+use Rattle.col_model.specs.ColumnCalls.{cast_slot, first_lost, strict_refusal, unless_refused, is_built_target, cast_of, pair_refusal, kept_flag, keeps_order}
+use Rattle.col_rule.specs.Columns.{mapped_chunks}
+use Rattle.col_logical.specs.Logical.{is_time, retyped, lie_in_the_day}
+use Rattle.col_series.specs.Casts.{cast_by, cast_nulls, cast_under}
 use Rattle.col_series.proofs.TypeLemmas.{built_target, built_settled}
-use Rattle.col_series.proofs.SlotLemmas.{any_valid, all_null, on_slot-ticks}
-use Rattle.col_series.proofs.RuleLemmas.{cast_slots-fit}
+use Rattle.col_series.proofs.RuleLemmas.{time-fit, times-fit}
+use Rattle.col_series.proofs.ColumnLemmas.{gives_column, gives_chunked}
+use Rattle.col_series.proofs.LawLemmas.{kept_slots, none_lost, not_refused}
 
--- ---- the slots, in the order of the tests
+-- ---- by a rule
 
-pub pair_refused : (from target : DataType) (options : CastOptions) (rule : Option CastRule) (ticks : List (Option ℤ))
-    → is_bad_target target ≡ false → cast_rule_of None ≡ rule → list_any is_some ticks ≡ true
-    → cast_slots from target options rule (map integer_slot ticks) ≡ Err (errors.CastPair (kind_of from) (kind_of target))
-pair_refused from target options rule ticks good e valid = rw (good, ← e) (rw (any_valid ticks, valid) refl)
+-- words under a rule, read as the target, are what the cast gives
+pub cast-given : (options : CastOptions) (formula : Formula) (target word : DataType) (column words changed : Chunked) (lost : Option ℕ)
+    → column ≡ retyped column.column.dtype words → changed ≡ mapped_chunks (λ x. value_of formula x x) word words
+    → lost ≡ first_lost (slot_by formula) 0 words.column.slots
+    → unless_refused (strict_refusal options lost) (retyped target changed).column ≡ cast_by options formula target column.column
+cast-given options formula target word column words changed lost e f g =
+    rw (f, g) (sym (ap (λ (c : Column). cast_by options formula target c) (ap column_of e)))
 
-pub nulls_kept : (from target : DataType) (options : CastOptions) (rule : Option CastRule) (ticks : List (Option ℤ))
-    → is_bad_target target ≡ false → cast_rule_of None ≡ rule → list_any is_some ticks ≡ false
-    → cast_slots from target options rule (map integer_slot ticks) ≡ Ok (map integer_slot ticks)
-nulls_kept from target options rule ticks good e null = rw (good, ← e) (rw (any_valid ticks, null, all_null ticks null) refl)
+-- the lost row of a column that isn't too long
+this-or-later : (row last : ℕ) (none : Bool) (lost : Option ℕ) → row < last → IfSome lost (λ r. r < last) → IfSome (if none then Some row else lost) (λ r. r < last)
+this-or-later row last true lost less h = less
+this-or-later row last false lost less h = h
 
-pub lost_refused : (from target : DataType) (options : CastOptions) (own : TickRule) (rule : Option CastRule) (ticks : List (Option ℤ)) (lost : Option ℕ) (row : ℕ)
-    → is_bad_target target ≡ false → cast_rule_of (Some own) ≡ rule → lost ≡ first_lost_tick own 0 ticks → Some (errors.Strict row) ≡ strict_refusal options lost
-    → cast_slots from target options rule (map integer_slot ticks) ≡ Err (errors.Strict row)
-lost_refused from target options own rule ticks lost row good e first refused = rw (good, ← e) (rw (← first, ← refused) refl)
+lost-inside : (f : Option Value → Option Value) (row last : ℕ) (slots : List (Option Value)) → row + length slots ≤ last → IfSome (first_lost f row slots) (λ lost. lost < last)
+lost-inside f row last [] fits = tt
+lost-inside f row last (None ∷ slots) fits = lost-inside f (row + 1) last slots (omega arith)
+lost-inside f row last (Some value ∷ slots) fits =
+    this-or-later row last (is_none (f (Some value))) (first_lost f (row + 1) slots) (omega arith) (lost-inside f (row + 1) last slots (omega arith))
 
-pub rule_kept : (from target : DataType) (options : CastOptions) (own : TickRule) (rule : Option CastRule) (ticks changed : List (Option ℤ)) (lost : Option ℕ)
-    → is_bad_target target ≡ false → cast_rule_of (Some own) ≡ rule → lost ≡ first_lost_tick own 0 ticks → None ≡ strict_refusal options lost
-    → changed ≡ changed_ticks own ticks
-    → cast_slots from target options rule (map integer_slot ticks) ≡ Ok (map integer_slot changed)
-rule_kept from target options own rule ticks changed lost good e first kept is =
-    rw (good, ← e, is) (rw (← first, ← kept, on_slot-ticks (changed_tick own) ticks) refl)
+pub lost-short : (f : Option Value → Option Value) (column words : Chunked) (lost : Option ℕ) → column ≡ retyped column.column.dtype words → length column.column.slots < 2 ^ 32
+    → lost ≡ first_lost f 0 words.column.slots → IfSome lost (λ row. row < 2 ^ 32)
+lost-short f column words lost e short is =
+    let same : length column.column.slots ≡ length words.column.slots = ap (λ (c : Chunked). length c.column.slots) e in
+    rw is (lost-inside f 0 (2 ^ 32) words.column.slots (omega arith))
 
--- ---- a column of them
+-- a rule that keeps each integer keeps the slots of a valid column
+pub kept-cast : (options : CastOptions) (target : DataType) (column : Column) → IsValidColumn column → column.flag ≡ Not
+    → cast_by options X target column ≡ Ok (record column { dtype = target })
+kept-cast options target column valid unmarked =
+    rw (none_lost column.dtype 0 column.slots valid.values, kept_slots column.dtype column.slots valid.values) (rw (not_refused options, unmarked) refl)
 
--- what is answered wasn't refused
-answered : {T : Type 0} (refusal : Option PolarsError) (x y : T) → unless_refused refusal x ≡ Ok y → (y ≡ x) × (refusal ≡ None)
-answered None x y e = (cc, refl)
-answered (Some refused) x y e = cc
+-- ---- without one
 
--- nor was it for a bad target
-answered_good : {T : Type 0} (bad : Bool) (refused : PolarsError) (others : Option PolarsError) (x y : T) → unless_refused (if bad then Some refused else others) x ≡ Ok y → bad ≡ false
-answered_good false refused others x y e = refl
-answered_good true refused others x y e = cc
+-- nulls among slots, and so many others
+abbrev nulls-from : ℕ → List (Option Value) → ℕ
+nulls-from nulls slots = fold (λ (count : ℕ) (slot : Option Value). count + cond (is_none slot) 1 0) nulls slots
 
--- what is refused is so whatever the answer
-refused_alike : {S T : Type 0} (refusal : Option PolarsError) (x : S) (y : T) (e : PolarsError) → unless_refused refusal x ≡ Err e → unless_refused refusal y ≡ Err e
-refused_alike None x y e h = cc
-refused_alike (Some refused) x y e h = cc
+-- a slot is valid where fewer are null than there are
+nulls-le : (nulls : ℕ) (slots : List (Option Value)) → nulls-from nulls slots ≤ nulls + length slots
+nulls-le nulls [] = omega arith
+nulls-le nulls (None ∷ slots) = let rest = nulls-le (nulls + 1) slots in omega arith
+nulls-le nulls (Some value ∷ slots) = let rest = nulls-le (nulls + 0) slots in omega arith
 
--- no claim is kept where there was none
-no_flag : (kept : Bool) → kept_flag kept Not ≡ Not
-no_flag true = refl
-no_flag false = refl
+valid-from : (nulls : ℕ) (slots : List (Option Value)) → nulls-from nulls slots < nulls + length slots → list_any is_some slots ≡ true
+valid-from nulls [] h = absurd (omega arith)
+valid-from nulls (None ∷ slots) h = valid-from (nulls + 1) slots (omega arith)
+valid-from nulls (Some value ∷ slots) h = refl
 
--- the column that a cast gives has the slots that it gives
-pub cast_given : (name : List ℕ) (from target : DataType) (options : CastOptions) (ticks changed : List (Option ℤ))
-    → is_built_target target ≡ true
-    → cast_slots from target options (cast_rule from target options) (map integer_slot ticks) ≡ Ok (map integer_slot changed)
-    → cast_of (ticks_column name from ticks) target options ≡ Ok (ticks_column name target changed)
-cast_given name from target options ticks changed built e =
-    let is = answered _ _ _ e in
-    let same = built_settled from target (built_target target built (answered_good _ _ _ _ _ e)) in
-    rw same (rw (is.1) (rw (← is.0, no_flag) refl))
+none-from : (nulls : ℕ) (slots : List (Option Value)) → nulls + length slots ≤ nulls-from nulls slots → list_any is_some slots ≡ false
+none-from nulls [] h = refl
+none-from nulls (None ∷ slots) h = none-from (nulls + 1) slots (omega arith)
+none-from nulls (Some value ∷ slots) h = let rest = nulls-le (nulls + 0) slots in absurd (omega arith)
 
--- and is refused where they are
-cast_refused : (name : List ℕ) (from target : DataType) (options : CastOptions) (ticks : List (Option ℤ)) (refusal : PolarsError)
-    → is_built_target target ≡ true
-    → cast_slots from target options (cast_rule from target options) (map integer_slot ticks) ≡ Err refusal
-    → cast_of (ticks_column name from ticks) target options ≡ Err refusal
-cast_refused name from target options ticks refusal built e = go (is_bad_target target) refl
+pub any-valid : (slots : List (Option Value)) → null_count slots < length slots → list_any is_some slots ≡ true
+any-valid slots h = let zero : 0 + length slots ≡ length slots = omega arith in valid-from 0 slots (rw zero h)
+
+-- and none is where all are null
+pub none-valid : (slots : List (Option Value)) → length slots ≤ null_count slots → list_any is_some slots ≡ false
+none-valid slots h = let zero : 0 + length slots ≡ length slots = omega arith in none-from 0 slots (rw zero h)
+
+-- no value
+abbrev null : Option Value
+null = None
+
+all-null : (slots : List (Option Value)) → map (λ (slot : Option Value). null) slots ≡ replicate (length slots) None
+all-null [] = refl
+all-null (slot ∷ slots) = ap (λ (l : List (Option Value)). None ∷ l) (all-null slots)
+
+pub nulls-refused : (target : DataType) (column : Column) → null_count column.slots < length column.slots
+    → cast_nulls target column ≡ Err (errors.CastPair (kind_of column.dtype) (kind_of target))
+nulls-refused target column h = rw (any-valid column.slots h) refl
+
+pub nulls-given : (target : DataType) (column : Column) → length column.slots ≤ null_count column.slots
+    → cast_nulls target column ≡ Ok (record { name = column.name; dtype = target; slots = replicate (length column.slots) None; flag = Not })
+nulls-given target column h = rw (none-valid column.slots h) (rw (all-null column.slots) refl)
+
+-- a column of nulls, where there is room
+room : (rows : ℕ) → rows < 2 ^ 32 → nat_lt rows (2 ^ 32) ≡ true
+room rows h = grind (arith, nat_tests)
+
+pub nulls-of : (result : Result Chunked PolarsError) (name : List ℕ) (dtype : DataType) (rows : ℕ) → rows < 2 ^ 32 → Gives result (null_column name dtype rows)
+    → GivesBy column_of result (Ok (record { name = name; dtype = dtype; slots = replicate rows None; flag = Not }))
+nulls-of result name dtype rows short gave = gives_column result _ (rw (room rows short) at gave)
+
+-- the answer of a call
+abbrev pub given : Chunked → Result Chunked PolarsError
+given chunked = Ok chunked
+
+given-same : (x y : Chunked) → given x ≡ given y → x ≡ y
+given-same x y e = cc
+
+pub null-words : (name : List ℕ) (dtype : DataType) (rows : ℕ) (words : Chunked) → null_column name dtype rows ≡ given words → words.column.slots ≡ replicate rows None
+null-words name dtype rows words = go (nat_lt rows (2 ^ 32))
   where
-    go : (bad : Bool) → is_bad_target target ≡ bad → cast_of (ticks_column name from ticks) target options ≡ Err refusal
-    go true is = rw is (refused_alike (Some (errors.BadType (kind_of target)))
-        (map (cast_slot (cast_rule from target options)) (map integer_slot ticks)) (cast_column (ticks_column name from ticks) (resolved_target from target) options) refusal (rw is at e))
-    go false is = rw (built_settled from target (built_target target built is)) (refused_alike (cast_refusal from target options (cast_rule from target options) (map integer_slot ticks))
-        (map (cast_slot (cast_rule from target options)) (map integer_slot ticks)) (cast_column (ticks_column name from ticks) target options) refusal e)
+    go : (fits : Bool) → (if fits then given (in_one_chunk (record { name = name; dtype = dtype; slots = replicate rows None; flag = Not })) else Err (errors.TooLong rows)) ≡ given words
+        → words.column.slots ≡ replicate rows None
+    go true e = ap (λ (c : Chunked). c.column.slots) (sym (given-same _ words e))
+    go false e = cc
 
-refused_by : {S T V W : Type 0} (v : S → T) (w : V → W) (refusal : PolarsError) (a : Result T PolarsError) (b : Result W PolarsError)
-    → ((e : PolarsError) → a ≡ Err e → b ≡ Err e) → GivesBy v (Err refusal) a → GivesBy w (Err refusal) b
-refused_by v w errors.NoMemory a b f g = tt
-refused_by v w refusal a b f g = f refusal g
+-- the times of moments lie in the day
+pub times-day : (unit : TimeUnit) (words changed : Chunked) → given (mapped_chunks (λ x. value_of (time_of unit) x x) Int64 words) ≡ given changed → lie_in_the_day Time changed.column.slots ≡ true
+times-day unit words changed e =
+    rw (← given-same (mapped_chunks (λ x. value_of (time_of unit) x x) Int64 words) changed e) (times-fit (λ x. value_of (time_of unit) x x) (time-fit unit) words.column.slots)
 
-pub cast_gives : (name : List ℕ) (from target : DataType) (options : CastOptions) (ticks : List (Option ℤ)) (refusal : PolarsError)
-    → is_built_target target ≡ true
-    → GivesBy (λ (slots : List (Option Value)). slots) (Err refusal) (cast_slots from target options (cast_rule from target options) (map integer_slot ticks))
-    → GivesBy column_of (Err refusal) (cast_of (ticks_column name from ticks) target options)
-cast_gives name from target options ticks refusal built =
-    refused_by (λ (slots : List (Option Value)). slots) column_of refusal _ _ (λ e. cast_refused name from target options ticks e built)
+-- ---- a cast as a whole
 
--- the slots that a cast gives make a valid column
-pub cast_valid : (name : List ℕ) (from target : DataType) (options : CastOptions) (ticks changed : List (Option ℤ))
-    → is_built_target target ≡ true → IsValidColumn (ticks_column name from ticks) → list_all (is_fit from) ticks ≡ true
-    → cast_slots from target options (cast_rule from target options) (map integer_slot ticks) ≡ Ok (map integer_slot changed)
-    → IsValidColumn (ticks_column name target changed)
-cast_valid name from target options ticks changed built valid fit e =
-    let slots = map (cast_slot (cast_rule from target options)) (map integer_slot ticks) in
-    let is : map integer_slot changed ≡ slots = (answered _ _ _ e).0 in
-    let good : is_bad_target target ≡ false = answered_good _ _ _ _ _ e in
-    record {
-      short = rw (is, length-map (map integer_slot ticks) (cast_slot (cast_rule from target options))) valid.short;
-      typed = built_target target built good;
-      values = rw is (cast_slots-fit from target options valid.typed ticks fit);
-      sorted = refl;
-    }
+no-flag : (kept : Bool) (flag : IsSorted) → flag ≡ Not → kept_flag kept flag ≡ Not
+no-flag true flag e = e
+no-flag false flag e = refl
+
+under-none : (options : CastOptions) (target : DataType) (column : Column)
+    → unless_refused (pair_refusal column.dtype target options None column.slots) (record column { dtype = target; slots = map (cast_slot None) column.slots; flag = Not })
+    ≡ cast_nulls target column
+under-none options target column = go (list_any is_some column.slots)
+  where
+    go : (valid : Bool) → unless_refused (if valid then Some (errors.CastPair (kind_of column.dtype) (kind_of target)) else None)
+        (record column { dtype = target; slots = map (cast_slot None) column.slots; flag = Not })
+        ≡ (if valid then Err (errors.CastPair (kind_of column.dtype) (kind_of target)) else Ok (record column { dtype = target; slots = map (λ (slot : Option Value). null) column.slots; flag = Not }))
+    go true = refl
+    go false = refl
+
+under : (options : CastOptions) (target : DataType) (column : Column) (rule : Option CastRule)
+    → unless_refused (pair_refusal column.dtype target options rule column.slots) (record column { dtype = target; slots = map (cast_slot rule) column.slots; flag = Not })
+    ≡ cast_under options rule target column
+under options target column None = under-none options target column
+under options target column (Some rule) = refl
+
+-- a cast to a target that isn't bad is that by the rule of the table
+pub cast-is : (column : Column) (target : DataType) (options : CastOptions) → is_built_target target ≡ true → is_bad_target target ≡ false → column.flag ≡ Not
+    → cast_of column target options ≡ cast_under options (cast_rule column.dtype target options) target column
+cast-is column target options built good unmarked =
+    let flag : (kept : Bool) → kept_flag kept column.flag ≡ Not = λ kept. no-flag kept column.flag unmarked in
+    rw (built_settled column.dtype target (built_target target built good))
+    (rw (good, flag (keeps_order (cast_rule column.dtype target _) column.slots)) (under options target column (cast_rule column.dtype target options)))
+
+-- ---- by the row of the table
+
+pub kept-words : (result : Result Chunked PolarsError) (column : Chunked) (own target : DataType) (options : CastOptions) → own ≡ column.column.dtype
+    → cast_rule own target options ≡ rising X → IsValidColumn column.column → column.column.flag ≡ Not → Gives result (Ok (retyped target column))
+    → GivesBy column_of result (cast_under options (cast_rule column.column.dtype target options) target column.column)
+kept-words result column own target options e rule valid unmarked gave =
+    rw (← e) (rw rule (rw (kept-cast options target column.column valid unmarked) (gives_chunked result (retyped target column) gave)))
+
+pub cast-date : (column : Column) (own target : DataType) (options : CastOptions) (unit : TimeUnit) (name : Option (List ℕ)) → own ≡ column.dtype → own ≡ Date → target ≡ Datetime unit name
+    → cast_under options (cast_rule column.dtype target options) target column ≡ cast_by options (day_in_unit unit X) target column
+cast-date column own target options unit name e f g = rw (← e) (rw (f, g) refl)
+
+pub cast-to_date : (column : Column) (own target : DataType) (options : CastOptions) (unit : TimeUnit) (name : Option (List ℕ)) → own ≡ column.dtype → own ≡ Datetime unit name → target ≡ Date
+    → cast_under options (cast_rule column.dtype target options) target column ≡ cast_by options (day_of options unit) target column
+cast-to_date column own target options unit name e f g = rw (← e) (rw (f, g) refl)
+
+pub cast-to_time : (column : Column) (own target : DataType) (options : CastOptions) (unit : TimeUnit) (name : Option (List ℕ)) → own ≡ column.dtype → own ≡ Datetime unit name → target ≡ Time
+    → cast_under options (cast_rule column.dtype target options) target column ≡ cast_by options (time_of unit) target column
+cast-to_time column own target options unit name e f g = rw (← e) (rw (f, g) refl)
+
+pub cast-moments : (column : Column) (own target : DataType) (options : CastOptions) (old new : TimeUnit) (name other : Option (List ℕ)) → own ≡ column.dtype → own ≡ Datetime old name
+    → target ≡ Datetime new other → same_type column.dtype target ≡ false
+    → cast_under options (cast_rule column.dtype target options) target column ≡ cast_by options (datetime_in_unit old new X) target column
+cast-moments column own target options old new name other e f g apart = rw apart (rw (← e) (rw (f, g) refl))
+
+-- ---- types
+
+-- where slots are those of a type, times among them lie in the day
+pub in-day : (dtype : DataType) (slots : List (Option Value)) → list_all (is_slot_of dtype) slots ≡ true → lie_in_the_day dtype slots ≡ true
+in-day Time slots h = h
+in-day dtype slots h = refl
+
+-- also where the types are equal
+pub same-day : (from target : DataType) (slots : List (Option Value)) → same_type from target ≡ true → list_all (is_slot_of from) slots ≡ true → lie_in_the_day target slots ≡ true
+same-day Time Time slots e h = h
+same-day from Time slots e h = absurd (false≢true e)
+same-day from target slots e h = refl
+
+-- a type that isn't that of times asks for no day
+pub no-day : (dtype : DataType) (slots : List (Option Value)) → is_time dtype ≡ false → lie_in_the_day dtype slots ≡ true
+no-day Time slots h = cc
+no-day dtype slots h = refl
+
+-- nulls lie in each day
+pub nulls-day : (dtype : DataType) (rows : ℕ) → lie_in_the_day dtype (replicate rows None) ≡ true
+nulls-day Time rows = all-fit rows
+  where
+    all-fit : (rows : ℕ) → list_all (is_slot_of Time) (replicate rows None) ≡ true
+    all-fit zero = refl
+    all-fit (suc rows) = all-fit rows
+nulls-day dtype rows = refl

@@ -37,7 +37,7 @@ kept_slot : (dtype : DataType) (slot : Option Value) → is_slot_of dtype slot �
 kept_slot dtype None h = refl
 kept_slot dtype (Some value) h = kept_value (values_of dtype) value h
 
-kept_slots : (dtype : DataType) (slots : List (Option Value)) → list_all (is_slot_of dtype) slots ≡ true → map (cast_slot (Some identity)) slots ≡ slots
+pub kept_slots : (dtype : DataType) (slots : List (Option Value)) → list_all (is_slot_of dtype) slots ≡ true → map (cast_slot (Some identity)) slots ≡ slots
 kept_slots dtype [] h = refl
 kept_slots dtype (slot ∷ slots) h =
     let parts = and_parts _ _ h in
@@ -45,14 +45,14 @@ kept_slots dtype (slot ∷ slots) h =
     let rest = kept_slots dtype slots parts.1 in
     cc
 
-none_lost : (dtype : DataType) (row : ℕ) (slots : List (Option Value)) → list_all (is_slot_of dtype) slots ≡ true → first_lost (cast_slot (Some identity)) row slots ≡ None
+pub none_lost : (dtype : DataType) (row : ℕ) (slots : List (Option Value)) → list_all (is_slot_of dtype) slots ≡ true → first_lost (cast_slot (Some identity)) row slots ≡ None
 none_lost dtype row [] h = refl
 none_lost dtype row (None ∷ slots) h = none_lost dtype (row + 1) slots h
 none_lost dtype row (Some value ∷ slots) h =
     let parts = and_parts _ _ h in
     rw (kept_slot dtype (Some value) parts.0) (none_lost dtype (row + 1) slots parts.1)
 
-not_refused : (options : CastOptions) → strict_refusal options None ≡ None
+pub not_refused : (options : CastOptions) → strict_refusal options None ≡ None
 not_refused Strict = refl
 not_refused NonStrict = refl
 not_refused Overflowing = refl

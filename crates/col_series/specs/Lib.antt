@@ -1,5 +1,6 @@
 pub mod Seen
 pub mod Slots
+pub mod Columns
+pub mod Casts
 pub mod TickRule
-pub mod Shift
 pub mod Laws

@@ -1,15 +1,11 @@
 -- Slots of ticks: as a column's slots, and which of them a column can have.
-use Rattle.std.specs.Prelude.{ℕ, ℤ, Bool, true, List, map, Option, Some, None, Result}
+use Rattle.std.specs.Prelude.{ℕ, ℤ, Bool, true, List, map, Option, Some, None}
 use Rattle.std.specs.Int.{w64}
 use Rattle.col_types.specs.declared.data_type.DataType.{DataType}
 use Rattle.col_types.specs.declared.is_sorted.IsSorted.TheVariants.{Not}
-use Rattle.col_types.specs.declared.cast_options.CastOptions.{CastOptions}
-use Rattle.col_types.specs.declared.error.PolarsError.{PolarsError}
 use Rattle.col_model.specs.Arithmetic.{is_within, Signed, word_values}
-use Rattle.col_model.specs.Value.{Value, integer_slot}
+use Rattle.col_model.specs.Value.{integer_slot}
 use Rattle.col_model.specs.Column.{Column, is_slot_of}
-use Rattle.col_model.specs.CastTable.{CastRule}
-use Rattle.col_model.specs.ColumnCalls.{unless_refused, cast_refusal, cast_slot}
 
 -- the column of ticks, with no claim on their order
 abbrev pub ticks_column : List ℕ → DataType → List (Option ℤ) → Column
@@ -24,9 +20,3 @@ is_fit dtype slot = is_slot_of dtype (integer_slot slot)
 abbrev pub is_tick_slot : Option ℤ → Bool
 is_tick_slot None = true
 is_tick_slot (Some x) = is_within (word_values (Signed w64)) x
-
--- the slots of a cast by a rule of the table or none, or why it is refused
-abbrev pub cast_slots : DataType → DataType → CastOptions → Option CastRule →
-    List (Option Value) → Result (List (Option Value)) PolarsError
-cast_slots from target options rule slots =
-    unless_refused (cast_refusal from target options rule slots) (map (cast_slot rule) slots)

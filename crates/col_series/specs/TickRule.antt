@@ -1,17 +1,13 @@
 -- The rules of the tables as the code keeps them: what becomes of each tick.
-use Rattle.std.specs.Prelude.{◌≡◌, ◌<◌, ◌^◌, ◌*◌, ◌&&◌, if◌then◌else◌, ℕ, ℤ, pos, Bool, true, false}
-use Rattle.std.specs.Prelude.{List, map, Option, Some, None, is_some, is_none}
+use Rattle.std.specs.Prelude.{◌≡◌, ◌<◌, ◌^◌, ◌*◌, ℕ, pos, Bool, true, false}
+use Rattle.std.specs.Prelude.{Option, Some, None}
 use Rattle.std.specs.Int.{w32}
-use Rattle.std.specs.Option.{option_and_then}
 use Rattle.col_types.specs.TimeUnit.{nanos_per_day}
 use Rattle.col_types.specs.declared.data_type.DataType.{DataType}
 use Rattle.col_model.specs.Arithmetic.{Signed}
-use Rattle.col_model.specs.Formula.{Formula, X, Constant, FloorBy, FloorMod, value_of, slot_by}
+use Rattle.col_model.specs.Formula.{Formula, X, Constant, FloorBy, FloorMod}
 use Rattle.col_model.specs.UnitChange as units
-use Rattle.col_model.specs.declared.ticks.UnitChange.TheVariants as changes
-use Rattle.col_model.specs.Value.{integer_slot}
 use Rattle.col_model.specs.CastTable.{CastRule, narrowed}
-use Rattle.col_model.specs.ColumnCalls.{first_lost}
 use Rattle.col_model.specs.OperatorTable.{OperatorRule}
 use Rattle.col_series.specs.declared.tick_rule.TickRule.{TickRule}
 use Rattle.col_series.specs.declared.tick_rule.TickRule.TheVariants as rules
@@ -26,33 +22,6 @@ formula_of (rules.Datetime change) = units.datetime_by change X
 formula_of (rules.Duration change) = units.duration_by change X
 formula_of (rules.WrappedDatetime change) = units.wrapped_datetime_by change X
 formula_of (rules.WrappedDuration change) = units.wrapped_duration_by change X
-
--- ---- one tick, and each
-
--- a tick under the rule
-abbrev pub changed_tick : TickRule → ℤ → Option ℤ
-changed_tick rule tick = value_of (formula_of rule) tick tick
-
--- each tick under the rule
-abbrev pub changed_ticks : TickRule → List (Option ℤ) → List (Option ℤ)
-changed_ticks rule ticks = map (option_and_then (changed_tick rule)) ticks
-
--- the row, where its tick became null
-abbrev pub lost_at : ℕ → Option ℤ → Option ℤ → Option ℕ
-lost_at row old new = if is_some old && is_none new then Some row else None
-
--- the first row, from this one on, whose tick the rule makes null
-abbrev pub first_lost_tick : TickRule → ℕ → List (Option ℤ) → Option ℕ
-first_lost_tick rule row ticks = first_lost (slot_by (formula_of rule)) row (map integer_slot ticks)
-
--- whether the rule keeps each tick
-abbrev pub is_same : TickRule → Bool
-is_same rules.Same = true
-is_same (rules.Datetime changes.Same) = true
-is_same (rules.Duration changes.Same) = true
-is_same (rules.WrappedDatetime changes.Same) = true
-is_same (rules.WrappedDuration changes.Same) = true
-is_same _ = false
 
 -- a day's ticks are some, and a number of 64 bits
 pub record IsDay (day : ℕ) : Type 0 where

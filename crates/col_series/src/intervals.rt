@@ -9,9 +9,7 @@ ghost use Rattle.col_model.specs.IntervalRoom.{IsNear};
 ghost use Rattle.col_model.specs.RuleIntervals.{cast_interval, typed_interval};
 ghost use Rattle.col_series.specs.TickRule.{formula_of, IsDay, IsWholeDay, IsProper};
 
-use crate::cast::cast_rule;
-use crate::tick_rule::TickRule;
-use crate::unit_rule::unit_change_rule;
+use crate::tick_rule::{TickRule, cast_rule, unit_change_rule};
 use crate::{CastOptions, DataType, TimeUnit};
 use col_model::{Interval, date_values, finer, floor_by, inside, lengths, moments, times};
 

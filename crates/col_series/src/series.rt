@@ -1,57 +1,51 @@
-// A column: a name, a type and slots.
-ghost use Rattle.std.specs.Prelude.{◌≡◌, ◌<◌, ◌^◌, true, length, map};
-ghost use Rattle.std.specs.List.{list_all};
-ghost use Rattle.col_types.specs.PolarsError.{Gives, GivesBy, seen_by};
-ghost use Rattle.col_types.specs.declared.cast_options.CastOptions.TheVariants.{Strict, NonStrict};
-ghost use Rattle.col_model.specs.Value.{integer_slot};
-ghost use Rattle.col_model.specs.Column.{IsValidColumn, is_built_type};
-ghost use Rattle.col_model.specs.Chunked.{column_of, in_one_chunk};
-ghost use Rattle.col_model.specs.ColumnCalls.{chunked_from, cast_of, is_built_target};
-ghost use Rattle.col_model.specs.OperatorCalls.{in_unit_of, shifted};
-ghost use Rattle.col_series.specs.Seen.{value_seen, slot_seen, seen_at};
-ghost use Rattle.col_series.specs.Slots.{is_fit, ticks_column};
+//! A column: a name, a type and slots in chunks.
 
-use crate::cast::cast_slots;
-use crate::shift::shifted_slots;
-use crate::slots::{ROW_LIMIT, first_unfit, ticks};
-use crate::tick_rule::changed_list;
-use crate::unit_rule::unit_change_rule;
-use crate::{
-    AnyValue, CastOptions, DataType, OpName, PlSmallStr, PolarsError, PolarsResult, TimeUnit,
-};
+ghost use Rattle.std.specs.Prelude.{◌≡◌, true, false, Ok, Some, length};
+ghost use Rattle.std.specs.Int.{w32, w64};
+ghost use Rattle.col_types.specs.PolarsError.{Gives, GivesBy, seen_by};
+ghost use Rattle.col_types.specs.declared.is_sorted.IsSorted.TheVariants.{Not};
+ghost use Rattle.col_model.specs.Arithmetic.{Signed};
+ghost use Rattle.col_model.specs.Column.{IsValidColumn, is_built_type, physical_word};
+ghost use Rattle.col_model.specs.ChunkCalls.{null_column, null_count};
+ghost use Rattle.col_model.specs.Chunked.{column_of};
+ghost use Rattle.col_model.specs.ColumnCalls.{chunked_from};
+ghost use Rattle.col_model.specs.OperatorCalls.{in_unit_of, shifted};
+ghost use Rattle.col_logical.specs.Logical.{lie_in_the_day, retyped};
+ghost use Rattle.col_types.specs.declared.operator.OpName.TheVariants.{Coerce};
+ghost use Rattle.col_model.specs.OperationNames.{unsupported};
+ghost use Rattle.col_series.specs.Columns.{shown, word_of, words_shown};
+
+use crate::columns::{Columns, Physical};
+use crate::slots::{ROW_LIMIT, first_unfit, words_of};
+use crate::{DataType, OpName, PlSmallStr, PolarsError, PolarsResult, TimeUnit};
+use col_chunk::{Int32Chunked, Int64Chunked};
+use col_logical::Logical;
 use std::alloc::Global;
 use std::marker::Model;
-use std::rc::Rc;
 
-/// A column of ticks. Its clones and some casts share the list of slots.
+/// A column. Its clones and some casts share its buffers.
 #[derive(Drop)]
 pub struct Series {
-    name: PlSmallStr,
-    dtype: DataType,
-    slots: Rc<Vec<Option<i64>>>,
+    pub(crate) columns: Columns,
 }
 
 impl Model for Series {
     ghost use Rattle.std.specs.Coded.{codes};
     ghost use Rattle.col_types.specs.contracts.data_type.DataType as data_type;
     ghost use Rattle.col_model.specs.Chunked.{Chunked};
+    ghost use Rattle.col_series.specs.Columns.{shown};
 
     ghost Value = { Chunked };
 
     ghost coded = { Prim.hlevel (codes, data_type.the_row.coded) };
 
-    ghost use Rattle.col_model.specs.Chunked.{in_one_chunk};
-    ghost use Rattle.col_model.specs.Column.{IsValidColumn};
-    ghost use Rattle.col_series.specs.Slots.{ticks_column};
-
-    ghost view = { λ s. in_one_chunk (ticks_column s.name s.dtype s.slots.value.items) };
-
-    ghost invariant = { λ s. IsValidColumn (ticks_column s.name s.dtype s.slots.value.items) };
+    ghost view = { λ s. shown s.columns };
 }
 
 impl Series {
-    /// A column of these slots, with no claim on their order. Refused where a value isn't one of
-    /// the type (`Fit`, with the least such row), then at 2^32 slots or more (`TooLong`).
+    /// A column of these slots, in one chunk, with no claim on their order. Refused where a value
+    /// isn't one of the type (`Fit`, with the least such row), then at 2^32 slots or more
+    /// (`TooLong`).
     pub fn from_slots(
         alloc: Global,
         name: PlSmallStr,
@@ -70,135 +64,198 @@ impl Series {
                 len: slots.len() as u64,
             });
         }
-        let ticks = ticks(alloc, slots)?;
-        Series::from_ticks(alloc, name, dtype.clone_flat(), ticks)
+        if is_in_32_bits(dtype) {
+            let words = words_of(alloc, name, slots)?;
+            return Ok(Series::from_int32(words, dtype.clone_flat()));
+        }
+        let words = words_of(alloc, name, slots)?;
+        Ok(Series::from_int64(words, dtype.clone_flat()))
     }
 
-    /// A column of these ticks, with no claim on their order. The one refusal is `NoMemory`.
-    pub fn from_ticks(
+    /// A column of so many nulls, in one chunk. Refused at 2^32 rows or more (`TooLong`).
+    pub fn full_null(
         alloc: Global,
         name: PlSmallStr,
-        dtype: DataType,
-        ticks: Vec<Option<i64>>,
+        length: usize,
+        dtype: &DataType,
     ) -> PolarsResult<Series>
-        requires built_type { is_built_type dtype ≡ true }
-        requires fit { list_all (is_fit dtype) ticks.items ≡ true }
-        requires short { length ticks.items < 2 ^ 32 }
-        ensures column { Gives result (Ok (in_one_chunk (ticks_column name dtype ticks.items))) }
+        requires built_type { is_built_type dtype.now ≡ true }
+        ensures column { Gives result (null_column name dtype.now length) }
     {
-        let slots = Rc::new(alloc, ticks)?;
-        Ok(Series { name, dtype, slots })
+        if is_in_32_bits(dtype) {
+            return match Int32Chunked::full_null(alloc, name, length) {
+                Ok(words) => Ok(Series::from_int32(words, dtype.clone_flat())),
+                Err(refusal) => Err(refusal),
+            };
+        }
+        match Int64Chunked::full_null(alloc, name, length) {
+            Ok(words) => Ok(Series::from_int64(words, dtype.clone_flat())),
+            Err(refusal) => Err(refusal),
+        }
+    }
+
+    /// The words of a column of 32 bits, read as a type that is kept in such words.
+    pub fn from_int32(words: Int32Chunked, dtype: DataType) -> Series
+        requires built_type { is_built_type dtype ≡ true }
+        requires stored { physical_word dtype ≡ Some (Signed w32) }
+        ensures column { result ≡ retyped dtype words }
+    {
+        match dtype {
+            DataType::Date => Series {
+                columns: Columns::Date(Logical::new_logical(words, DataType::Date)),
+            },
+            _ => unreachable!(),
+        }
+    }
+
+    /// The words of a column of 64 bits, read as a type that is kept in such words.
+    pub fn from_int64(words: Int64Chunked, dtype: DataType) -> Series
+        requires built_type { is_built_type dtype ≡ true }
+        requires stored { physical_word dtype ≡ Some (Signed w64) }
+        requires day { lie_in_the_day dtype words.column.slots ≡ true }
+        ensures column { result ≡ retyped dtype words }
+    {
+        let columns = match &dtype {
+            DataType::Datetime(_, _) => Columns::Datetime(Logical::new_logical(words, dtype)),
+            DataType::Duration(_) => Columns::Duration(Logical::new_logical(words, dtype)),
+            DataType::Time => Columns::Time(Logical::new_logical(words, dtype)),
+            _ => unreachable!(),
+        };
+        Series { columns }
     }
 
     /// The name.
     pub fn name(&self) -> &PlSmallStr
         ensures name { result.now ≡ self.now.column.name }
     {
-        &self.name
+        match &self.columns {
+            Columns::Date(dates) => dates.name(),
+            Columns::Datetime(moments) => moments.name(),
+            Columns::Duration(lengths) => lengths.name(),
+            Columns::Time(times) => times.name(),
+        }
     }
 
     /// The type.
     pub fn dtype(&self) -> &DataType
         ensures dtype { result.now ≡ self.now.column.dtype }
     {
-        &self.dtype
+        match &self.columns {
+            Columns::Date(dates) => dates.dtype(),
+            Columns::Datetime(moments) => moments.dtype(),
+            Columns::Duration(lengths) => lengths.dtype(),
+            Columns::Time(times) => times.dtype(),
+        }
     }
 
     /// The number of rows.
     pub fn len(&self) -> usize
         ensures length { result ≡ length self.now.column.slots }
     {
-        self.slots.len()
+        match &self.columns {
+            Columns::Date(dates) => dates.len(),
+            Columns::Datetime(moments) => moments.len(),
+            Columns::Duration(lengths) => lengths.len(),
+            Columns::Time(times) => times.len(),
+        }
     }
 
-    /// Does nothing: its contract tells a caller that the column is valid.
+    /// The number of nulls. Takes the time of the words of validity.
+    pub fn null_count(&self) -> usize
+        ensures nulls { result ≡ null_count self.now.column.slots }
+    {
+        match &self.columns {
+            Columns::Date(dates) => dates.null_count(),
+            Columns::Datetime(moments) => moments.null_count(),
+            Columns::Duration(lengths) => lengths.null_count(),
+            Columns::Time(times) => times.null_count(),
+        }
+    }
+
+    /// The number of chunks.
+    pub fn n_chunks(&self) -> usize
+        ensures chunks { result ≡ length self.now.chunk_lengths }
+    {
+        match &self.columns {
+            Columns::Date(dates) => dates.n_chunks(),
+            Columns::Datetime(moments) => moments.n_chunks(),
+            Columns::Duration(lengths) => lengths.n_chunks(),
+            Columns::Time(times) => times.n_chunks(),
+        }
+    }
+
+    /// Does nothing: its contract tells a caller that the column is valid, with no claim on its
+    /// order.
     pub fn known(&self)
         ensures valid { IsValidColumn self.now.column }
+        ensures unmarked { self.now.column.flag ≡ Not }
     {
-        let _ = &self.slots;
-    }
-
-    /// The slots as they are kept: null or a tick, which is a value of the type.
-    pub fn ticks(&self) -> &[Option<i64>]
-        ensures ticks { map integer_slot result.now ≡ self.now.column.slots }
-        ensures fit { list_all (is_fit self.now.column.dtype) result.now ≡ true }
-        ensures short { length result.now < 2 ^ 32 }
-    {
-        self.slots.as_slice()
-    }
-
-    /// The value of a row. Refused at an index past the rows (`OutOfBounds`). It takes no memory.
-    pub fn get(&self, index: usize) -> PolarsResult<AnyValue<'_>>
-        ensures value { seen_by value_seen result ≡ seen_at self.now.column index }
-    {
-        let len = self.len();
-        if index >= len {
-            return Err(PolarsError::OutOfBounds { index, len });
+        match &self.columns {
+            Columns::Date(dates) => dates.known(),
+            Columns::Datetime(moments) => moments.known(),
+            Columns::Duration(lengths) => lengths.known(),
+            Columns::Time(times) => times.known(),
         }
-        Ok(self.get_unchecked(index))
     }
 
-    /// The value of a row that is there. It takes no memory.
-    pub fn get_unchecked(&self, index: usize) -> AnyValue<'_>
-        requires row { index < length self.now.column.slots }
-        ensures value { Ok (value_seen result) ≡ seen_at self.now.column index }
+    /// The words.
+    pub fn physical(&self) -> Physical<'_>
+        ensures column { self.now ≡ retyped self.now.column.dtype (words_shown result) }
+        ensures stored { physical_word self.now.column.dtype ≡ Some (word_of result) }
     {
-        value_of(&self.dtype, self.slots[index])
+        match &self.columns {
+            Columns::Date(dates) => {
+                dates.known();
+                Physical::Int32(dates.physical())
+            }
+            Columns::Datetime(moments) => {
+                moments.known();
+                Physical::Int64(moments.physical())
+            }
+            Columns::Duration(lengths) => {
+                lengths.known();
+                Physical::Int64(lengths.physical())
+            }
+            Columns::Time(times) => {
+                times.known();
+                Physical::Int64(times.physical())
+            }
+        }
     }
 
-    /// An equal column, which shares the list of slots.
-    pub fn try_clone(&self, _alloc: Global) -> PolarsResult<Series>
+    /// The words of a column whose type is kept in 32 bits.
+    pub fn int32(&self) -> &Int32Chunked
+        requires stored { physical_word self.now.column.dtype ≡ Some (Signed w32) }
+        ensures column { self.now ≡ retyped self.now.column.dtype result.now }
+    {
+        match self.physical() {
+            Physical::Int32(words) => words,
+            Physical::Int64(_) => unreachable!(),
+        }
+    }
+
+    /// The words of a column whose type is kept in 64 bits.
+    pub fn int64(&self) -> &Int64Chunked
+        requires stored { physical_word self.now.column.dtype ≡ Some (Signed w64) }
+        ensures column { self.now ≡ retyped self.now.column.dtype result.now }
+    {
+        match self.physical() {
+            Physical::Int32(_) => unreachable!(),
+            Physical::Int64(words) => words,
+        }
+    }
+
+    /// An equal column, over the same buffers.
+    pub fn try_clone(&self, alloc: Global) -> PolarsResult<Series>
         ensures column { Gives result (Ok self.now) }
     {
-        let slots = self.slots.clone()?;
-        let name = self.name.clone()?;
-        Ok(Series {
-            name,
-            dtype: self.dtype.clone_flat(),
-            slots,
-        })
-    }
-
-    /// The column in another type; a value that has no room there becomes null. Refused where no
-    /// column can have the type (`BadType`), then where no cast leads to it and a slot is valid
-    /// (`CastPair`).
-    pub fn cast(&self, alloc: Global, dtype: &DataType) -> PolarsResult<Series>
-        requires built_target { is_built_target dtype.now ≡ true }
-        ensures column { GivesBy column_of result (cast_of self.now.column dtype.now NonStrict) }
-    {
-        self.cast_with_options(alloc, dtype, CastOptions::NonStrict)
-    }
-
-    /// As `cast`, and then refused where a valid slot would become null (`Strict`, with the least
-    /// such row).
-    pub fn strict_cast(&self, alloc: Global, dtype: &DataType) -> PolarsResult<Series>
-        requires built_target { is_built_target dtype.now ≡ true }
-        ensures column { GivesBy column_of result (cast_of self.now.column dtype.now Strict) }
-    {
-        self.cast_with_options(alloc, dtype, CastOptions::Strict)
-    }
-
-    /// The column in another type, by the options: `Strict` as `strict_cast`, `NonStrict` as
-    /// `cast`, and `Overflowing` as `cast`, but a day that the word of dates has no room for wraps.
-    pub fn cast_with_options(
-        &self,
-        alloc: Global,
-        dtype: &DataType,
-        options: CastOptions,
-    ) -> PolarsResult<Series>
-        requires built_target { is_built_target dtype.now ≡ true }
-        ensures column { GivesBy column_of result (cast_of self.now.column dtype.now options) }
-    {
-        let slots = match cast_slots(alloc, &self.dtype, dtype, options, &self.slots) {
-            Ok(slots) => slots,
-            Err(refusal) => return Err(refusal),
+        let columns = match &self.columns {
+            Columns::Date(dates) => Columns::Date(dates.try_clone(alloc)?),
+            Columns::Datetime(moments) => Columns::Datetime(moments.try_clone(alloc)?),
+            Columns::Duration(lengths) => Columns::Duration(lengths.try_clone(alloc)?),
+            Columns::Time(times) => Columns::Time(times.try_clone(alloc)?),
         };
-        let name = self.name.clone()?;
-        Ok(Series {
-            name,
-            dtype: dtype.clone_flat(),
-            slots,
-        })
+        Ok(Series { columns })
     }
 
     /// The column in another unit: moments round down and lengths of time towards zero in a coarser
@@ -207,16 +264,26 @@ impl Series {
     pub fn cast_time_unit(&self, alloc: Global, unit: TimeUnit) -> PolarsResult<Series>
         ensures column { GivesBy column_of result (in_unit_of self.now.column unit) }
     {
-        match unit_change_rule(&self.dtype, unit) {
-            None => Err(PolarsError::Types {
-                op: OpName::Coerce,
-                left: self.dtype.kind(),
-                right: self.dtype.kind(),
-            }),
-            Some((dtype, rule)) => {
-                let (slots, _) = changed_list(alloc, rule, &self.slots)?;
-                let name = self.name.clone()?;
-                Ok(Series { name, dtype, slots })
+        match &self.columns {
+            Columns::Datetime(moments) => match moments.cast_time_unit(alloc, unit) {
+                Ok(moments) => Ok(Series {
+                    columns: Columns::Datetime(moments),
+                }),
+                Err(refusal) => Err(refusal),
+            },
+            Columns::Duration(lengths) => match lengths.cast_time_unit(alloc, unit) {
+                Ok(lengths) => Ok(Series {
+                    columns: Columns::Duration(lengths),
+                }),
+                Err(refusal) => Err(refusal),
+            },
+            Columns::Date(dates) => {
+                dates.known();
+                Err(without_unit(dates.dtype()))
+            }
+            Columns::Time(times) => {
+                times.known();
+                Err(without_unit(times.dtype()))
             }
         }
     }
@@ -226,24 +293,41 @@ impl Series {
     pub fn shift(&self, alloc: Global, periods: i64) -> PolarsResult<Series>
         ensures column { GivesBy column_of result (Ok (shifted self.now.column periods)) }
     {
-        let ticks = shifted_slots(alloc, periods, self.slots.as_slice())?;
-        let name = self.name.clone()?;
-        Series::from_ticks(alloc, name, self.dtype.clone_flat(), ticks)
+        self.known();
+        let dtype = self.dtype().clone_flat();
+        match self.physical() {
+            Physical::Int32(words) => match words.shift(alloc, periods) {
+                Ok(words) => Ok(Series::from_int32(words, dtype)),
+                Err(refusal) => Err(refusal),
+            },
+            Physical::Int64(words) => match words.shift(alloc, periods) {
+                Ok(words) => Ok(Series::from_int64(words, dtype)),
+                Err(refusal) => Err(refusal),
+            },
+        }
     }
 }
 
-/// What a slot shows in a column of the type.
-fn value_of<'a>(dtype: &'a DataType, slot: Option<i64>) -> AnyValue<'a>
-    requires fit { is_fit dtype.now slot ≡ true }
-    ensures value { value_seen result ≡ slot_seen dtype.now (integer_slot slot) }
+/// Whether a column of the type is kept in words of 32 bits, and not in those of 64.
+fn is_in_32_bits(dtype: &DataType) -> bool
+    requires built_type { is_built_type dtype.now ≡ true }
+    ensures narrow { result ≡ true → physical_word dtype.now ≡ Some (Signed w32) }
+    ensures wide { result ≡ false → physical_word dtype.now ≡ Some (Signed w64) }
 {
-    match (dtype, slot) {
-        (DataType::Date, Some(day)) => AnyValue::Date(day as i32),
-        (DataType::Datetime(unit, zone), Some(tick)) => {
-            AnyValue::Datetime(tick, *unit, zone.as_ref())
-        }
-        (DataType::Duration(unit), Some(tick)) => AnyValue::Duration(tick, *unit),
-        (DataType::Time, Some(nanos)) => AnyValue::Time(nanos),
-        _ => AnyValue::Null,
+    match dtype {
+        DataType::Date => true,
+        DataType::Datetime(_, _) | DataType::Duration(_) | DataType::Time => false,
+        _ => unreachable!(),
+    }
+}
+
+/// The refusal of a change of unit where the type has none.
+fn without_unit(dtype: &DataType) -> PolarsError
+    ensures refusal { result ≡ unsupported Coerce dtype.now dtype.now }
+{
+    PolarsError::Types {
+        op: OpName::Coerce,
+        left: dtype.kind(),
+        right: dtype.kind(),
     }
 }

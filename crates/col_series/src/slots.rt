@@ -1,13 +1,19 @@
-// The slots of a new column.
-ghost use Rattle.std.specs.Prelude.{◌≡◌, ◌≤◌, ◌^◌, true, length, take, IfOk};
+//! The slots of a new column.
+
+ghost use Rattle.std.specs.Prelude.{◌≡◌, ◌<◌, ◌≤◌, ◌^◌, true, length, map, take, IfOk};
 ghost use Rattle.std.specs.List.{list_all};
+ghost use Rattle.std.specs.Option.{option_map};
 ghost use Rattle.std.specs.Int.{w32, w64};
+ghost use Rattle.col_types.specs.declared.is_sorted.IsSorted.TheVariants.{Not};
 ghost use Rattle.col_model.specs.Arithmetic.{is_within, Signed, word_values};
+ghost use Rattle.col_model.specs.Value.{integer_slot, whole};
+ghost use Rattle.col_model.specs.Words.{is_word_slot, word_dtype};
+ghost use Rattle.col_model.specs.Chunked.{in_one_chunk};
 ghost use Rattle.col_model.specs.Column.{is_built_type, day_values};
 ghost use Rattle.col_model.specs.ColumnCalls.{is_unfit, first_unfit};
-ghost use Rattle.col_series.specs.Slots.{is_tick_slot};
 
-use crate::DataType;
+use crate::{DataType, PlSmallStr};
+use col_chunk::{ArrayOf, Chunk, ChunkedArray, Word, WordChunk};
 use col_types::NANOS_PER_DAY;
 use std::alloc::{AllocError, Global};
 
@@ -75,24 +81,46 @@ pub(crate) fn first_unfit(dtype: &DataType, slots: &[Option<i128>]) -> Option<u3
     None
 }
 
-fn tick_of(slot: Option<i128>) -> Option<i64>
-    requires fits { is_tick_slot slot ≡ true }
-    ensures same { result ≡ slot }
+/// An integer as a word that has it.
+fn word_of<W: Word>(value: i128) -> W
+    requires fits { is_within (word_values W.word_type) value ≡ true }
+    ensures same { W.reading result ≡ value }
+{
+    W::wrap_i128(value)
+}
+
+/// A slot as a word that has it.
+fn slot_word<W: Word>(slot: Option<i128>) -> Option<W>
+    requires fits { is_word_slot W.word_type (integer_slot slot) ≡ true }
+    ensures same { option_map (λ x. whole (W.reading x)) result ≡ integer_slot slot }
 {
     match slot {
-        Some(value) => Some(value as i64),
+        Some(value) => Some(word_of(value)),
         None => None,
     }
 }
 
-/// The slots as ticks, in one allocation of their size.
-pub(crate) fn ticks(alloc: Global, slots: &[Option<i128>]) -> Result<Vec<Option<i64>>, AllocError>
-    requires fit { list_all is_tick_slot slots.now ≡ true }
-    ensures same { IfOk result (λ ticks. ticks.items ≡ slots.now) }
+/// The slots as words, in one chunk.
+pub(crate) fn words_of<W: Word>(
+    alloc: Global,
+    name: PlSmallStr,
+    slots: &[Option<i128>],
+) -> Result<ChunkedArray<W>, AllocError>
+    requires fit { list_all (is_word_slot W.word_type) (map integer_slot slots.now) ≡ true }
+    requires short { length slots.now < 2 ^ 32 }
+    ensures column { IfOk result (λ array. array ≡ in_one_chunk (record {
+      name = name;
+      dtype = word_dtype W.word_type;
+      slots = map integer_slot slots.now;
+      flag = Not;
+    })) }
 {
-    let mut ticks = Vec::with_capacity(alloc, slots.len())?;
+    let mut builder = WordChunk::builder(alloc, slots.len())?;
     for slot in slots {
-        ticks.push(tick_of(*slot))?;
+        builder.push(slot_word(*slot))?;
     }
-    Ok(ticks)
+    let chunk = WordChunk::build(alloc, builder)?;
+    let mut chunks = Vec::new(alloc);
+    chunks.push(chunk)?;
+    Ok(ArrayOf::from_chunks(name, chunks, slots.len()))
 }

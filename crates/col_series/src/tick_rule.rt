@@ -1,18 +1,14 @@
-// The rules of the tables, chosen once for a column, and each tick under a rule.
-ghost use Rattle.std.specs.Prelude.{◌≡◌, ◌<◌, ◌^◌, ◌≤ℤ◌, ◌<ℤ◌, pos, Some, length, IfOk};
-ghost use Rattle.std.specs.Option.{option_and_then, option_or};
-ghost use Rattle.col_model.specs.Arithmetic.{floor_mod};
-ghost use Rattle.col_series.specs.TickRule.{is_same, IsDay, IsWholeDay, IsProper};
-ghost use Rattle.col_series.specs.TickRule.{changed_tick, changed_ticks};
-ghost use Rattle.col_series.specs.TickRule.{lost_at, first_lost_tick};
+//! The rules of the cast table and of the table of units, chosen by types.
 
-use crate::CastOptions;
-use col_model::{
-    UnitChange, datetime_by, duration_by, fitting_day, wrapped_datetime_by, wrapped_day,
-    wrapped_duration_by,
-};
-use std::alloc::{AllocError, Global};
-use std::rc::Rc;
+ghost use Rattle.std.specs.Prelude.{◌≡◌, IfSome};
+ghost use Rattle.std.specs.Option.{option_map};
+ghost use Rattle.col_types.specs.TimeUnit.{ticks_per_day, nanos_per_tick};
+ghost use Rattle.col_model.specs.CastTable.{cast_rule, pair_rule};
+ghost use Rattle.col_model.specs.ScalarTable.{unit_change_rule};
+ghost use Rattle.col_series.specs.TickRule.{cast_rule_of, unit_rule_of, IsDay, IsProper};
+
+use crate::{CastOptions, DataType, TimeUnit};
+use col_model::{UnitChange, ticks_per_day as day_in_ticks, unit_change};
 
 /// A rule of the cast table or of the table of units: what becomes of each tick.
 #[derive(Clone, Copy)]
@@ -34,138 +30,77 @@ pub(crate) enum TickRule {
     WrappedDuration(UnitChange),
 }
 
-/// The moment at which a day begins, none where it leaves 64 bits.
-fn day_start(number: i64, day: u64) -> Option<i64>
-    requires day { IsDay day }
-    ensures value { result ≡ changed_tick (TickRule.DayStart day) number }
+fn ticks_per_day(unit: TimeUnit) -> u64
+    ensures value { result ≡ ticks_per_day unit }
+    ensures day { IsDay result }
 {
-    number.checked_mul(day as i64)
+    day_in_ticks(unit) as u64
 }
 
-/// The day of a moment. Where the word of dates doesn't hold it: none, or, where the cast may
-/// overflow, wrapped.
-fn day_of(tick: i64, day: u64, options: CastOptions) -> Option<i64>
-    requires day { IsDay day }
-    ensures value { result ≡ changed_tick (TickRule.Day day options) tick }
+/// The rule for the time of a moment.
+fn time_rule(unit: TimeUnit) -> TickRule
+    ensures rule { result ≡ TickRule.Time (ticks_per_day unit) (nanos_per_tick unit) }
+    ensures proper { IsProper result }
 {
-    let number = tick.div_euclid(day as i64);
-    match options {
-        CastOptions::Strict | CastOptions::NonStrict => fitting_day(number),
-        CastOptions::Overflowing => Some(wrapped_day(number)),
+    TickRule::Time(ticks_per_day(unit), unit.nanos_per_tick())
+}
+
+/// The rule for a pair of types that differ, or none.
+fn pair_rule(from: &DataType, target: &DataType, options: CastOptions) -> Option<TickRule>
+    ensures rule { cast_rule_of result ≡ pair_rule from.now target.now options }
+    ensures proper { IfSome result IsProper }
+{
+    match (from, target) {
+        (DataType::Date, DataType::Datetime(unit, _)) => {
+            Some(TickRule::DayStart(ticks_per_day(*unit)))
+        }
+        (DataType::Datetime(old, _), DataType::Datetime(new, _)) => {
+            Some(TickRule::Datetime(unit_change(*old, *new)))
+        }
+        (DataType::Datetime(unit, _), DataType::Date) => {
+            Some(TickRule::Day(ticks_per_day(*unit), options))
+        }
+        (DataType::Datetime(unit, _), DataType::Time) => Some(time_rule(*unit)),
+        (DataType::Duration(old), DataType::Duration(new)) => {
+            Some(TickRule::Duration(unit_change(*old, *new)))
+        }
+        (DataType::Time, DataType::Duration(unit)) => {
+            Some(TickRule::Duration(unit_change(TimeUnit::Nanoseconds, *unit)))
+        }
+        _ => None,
     }
 }
 
-/// The ticks of a moment since its day began.
-fn ticks_of_day(tick: i64, day: u64) -> i64
-    requires day { IsDay day }
-    ensures value { result ≡ floor_mod tick (pos day) }
-    ensures low { pos 0 ≤ℤ result }
-    ensures below { result <ℤ pos day }
+/// The rule from a type to a target that leaves nothing open, or none.
+pub(crate) fn cast_rule(
+    from: &DataType,
+    target: &DataType,
+    options: CastOptions,
+) -> Option<TickRule>
+    ensures rule { cast_rule_of result ≡ cast_rule from.now target.now options }
+    ensures proper { IfSome result IsProper }
 {
-    tick.rem_euclid(day as i64)
-}
-
-/// The nanoseconds of a moment since its day began.
-fn time_of(tick: i64, day: u64, nanos: u32) -> i64
-    requires day { IsWholeDay day nanos }
-    ensures value { Some result ≡ changed_tick (TickRule.Time day nanos) tick }
-{
-    ticks_of_day(tick, day) * i64::from(nanos)
-}
-
-/// A tick under the rule.
-fn changed_tick(rule: TickRule, tick: i64) -> Option<i64>
-    requires proper { IsProper rule }
-    ensures value { result ≡ changed_tick rule tick }
-{
-    match rule {
-        TickRule::Same => Some(tick),
-        TickRule::DayStart(day) => day_start(tick, day),
-        TickRule::Day(day, options) => day_of(tick, day, options),
-        TickRule::Time(day, nanos) => Some(time_of(tick, day, nanos)),
-        TickRule::Datetime(change) => datetime_by(tick, change),
-        TickRule::Duration(change) => duration_by(tick, change),
-        TickRule::WrappedDatetime(change) => Some(wrapped_datetime_by(tick, change)),
-        TickRule::WrappedDuration(change) => Some(wrapped_duration_by(tick, change)),
-    }
-}
-
-/// Whether the rule keeps each tick.
-fn is_same(rule: TickRule) -> bool
-    ensures same { result ≡ is_same rule }
-{
-    match rule {
-        TickRule::Same => true,
-        TickRule::Datetime(change)
-        | TickRule::Duration(change)
-        | TickRule::WrappedDatetime(change)
-        | TickRule::WrappedDuration(change) => matches!(change, UnitChange::Same),
-        TickRule::DayStart(_) | TickRule::Day(_, _) | TickRule::Time(_, _) => false,
-    }
-}
-
-/// A slot under the rule.
-fn changed_slot(rule: TickRule, slot: Option<i64>) -> Option<i64>
-    requires proper { IsProper rule }
-    ensures value { result ≡ option_and_then (changed_tick rule) slot }
-{
-    match slot {
-        Some(tick) => changed_tick(rule, tick),
-        None => None,
-    }
-}
-
-/// The first row that was lost, where this one may be the next.
-fn lost_with(lost: Option<u32>, row: usize, old: Option<i64>, new: Option<i64>) -> Option<u32>
-    requires row { row < 2 ^ 32 }
-    ensures lost { result ≡ option_or lost (lost_at row old new) }
-{
-    if lost.is_none() && old.is_some() && new.is_none() {
-        Some(row as u32)
+    if from.is_same(target) {
+        Some(TickRule::Same)
     } else {
-        lost
+        pair_rule(from, target, options)
     }
 }
 
-/// The slots under the rule, in one allocation of their size, and the first row whose tick becomes
-/// null.
-fn changed_slots(
-    alloc: Global,
-    rule: TickRule,
-    slots: &[Option<i64>],
-) -> Result<(Vec<Option<i64>>, Option<u32>), AllocError>
-    requires proper { IsProper rule }
-    requires short { length slots.now < 2 ^ 32 }
-    ensures slots { IfOk result (λ changed. changed.0.items ≡ changed_ticks rule slots.now) }
-    ensures lost { IfOk result (λ changed. changed.1 ≡ first_lost_tick rule 0 slots.now) }
+/// The type in another unit and the rule that leads to it, or none.
+pub(crate) fn unit_change_rule(dtype: &DataType, unit: TimeUnit) -> Option<(DataType, TickRule)>
+    ensures rule { option_map unit_rule_of result ≡ unit_change_rule dtype.now unit }
+    ensures proper { IfSome result (λ typed. IsProper typed.1) }
 {
-    let mut changed = Vec::with_capacity(alloc, slots.len())?;
-    let mut lost = None;
-    for (row, slot) in slots.iter().enumerate() {
-        let new = changed_slot(rule, *slot);
-        lost = lost_with(lost, row, *slot, new);
-        changed.push(new)?;
+    match dtype {
+        DataType::Datetime(old, zone) => {
+            let rule = TickRule::WrappedDatetime(unit_change(*old, unit));
+            Some((DataType::Datetime(unit, *zone), rule))
+        }
+        DataType::Duration(old) => {
+            let rule = TickRule::WrappedDuration(unit_change(*old, unit));
+            Some((DataType::Duration(unit), rule))
+        }
+        _ => None,
     }
-    Ok((changed, lost))
-}
-
-/// The list under the rule, and the first row whose tick becomes null. A rule that keeps each tick
-/// shares the list.
-pub(crate) fn changed_list(
-    alloc: Global,
-    rule: TickRule,
-    slots: &Rc<Vec<Option<i64>>>,
-) -> Result<(Rc<Vec<Option<i64>>>, Option<u32>), AllocError>
-    requires proper { IsProper rule }
-    requires short { length slots.now.value.items < 2 ^ 32 }
-    ensures slots { IfOk result
-        (λ changed. changed.0.value.items ≡ changed_ticks rule slots.now.value.items) }
-    ensures lost { IfOk result
-        (λ changed. changed.1 ≡ first_lost_tick rule 0 slots.now.value.items) }
-{
-    if is_same(rule) {
-        return Ok((slots.clone()?, None));
-    }
-    let (changed, lost) = changed_slots(alloc, rule, slots.as_slice())?;
-    Ok((Rc::new(alloc, changed)?, lost))
 }

@@ -1,14 +1,14 @@
--- The lines of a column's slots are those of its ticks, and a line is written before its line feed.
-use Rattle.std.proofs.Common.{◌≡◌, ◌+◌, ◌∙◌, ℕ, ℤ, pos, negsuc, false, true, List, [], ◌∷◌, ◌++◌, drop, length, map, Option, Some, None, refl, sym, ap, arith, int_le, unsigned_abs}
+-- A line is written before its line feed, and a column's text has the lines of its integers.
+use Rattle.std.proofs.Common.{◌≡◌, ◌+◌, ◌∙◌, ℕ, ℤ, pos, negsuc, false, true, List, [], ◌∷◌, ◌++◌, drop, length, Option, Some, None, refl, sym, ap, arith, int_le, unsigned_abs}
 use Rattle.std.specs.List.{flat_map}
 use Rattle.std.specs.Fmt.{decimal, signed_decimal}
 use Rattle.std.proofs.lemmas.List.{drop-drop, drop_at}
 use Rattle.std.proofs.lemmas.Bool.{false≢true, le-leb}
-use Rattle.col_types.specs.declared.data_type.DataType.{DataType}
+use Rattle.col_types.specs.declared.data_type.DataType.{DataType, Int64}
 use Rattle.col_model.specs.Column.{is_built_type}
-use Rattle.col_model.specs.Value.{Value, integer_slot}
+use Rattle.col_model.specs.Value.{Value, Flat, Nested, Whole, Bytes}
 use Rattle.col_series.proofs.TypeLemmas.{by_built_type}
-use Rattle.col_text.specs.Answer.{line_of, slot_text, tick_text}
+use Rattle.col_text.specs.Answer.{line_of, slot_line, slot_text}
 
 -- what stands behind digits that end at a place
 pub behind_digits : (buffer digits rest : List ℕ) (start end : ℕ) → start + length digits ≡ end
@@ -27,30 +27,23 @@ pub text_of-negative : (z : ℤ) → int_le (pos 0) z ≡ false → 45 ∷ decim
 text_of-negative (pos n) e = absurd (false≢true (sym e ∙ le-leb 0 n (omega arith)))
 text_of-negative (negsuc n) e = refl
 
--- a slot of a type that is built has the text of its tick
-tick_text-slot : (dtype : DataType) (slot : Option ℤ) → is_built_type dtype ≡ true
-    → tick_text slot ≡ slot_text dtype (integer_slot slot)
-tick_text-slot dtype None built = refl
-tick_text-slot dtype (Some x) built =
-    by_built_type (λ dtype. tick_text (Some x) ≡ slot_text dtype (integer_slot (Some x)))
+-- a slot of a type that is built has the text of its integer
+slot_text-built : (dtype : DataType) (slot : Option Value) → is_built_type dtype ≡ true
+    → slot_text Int64 slot ≡ slot_text dtype slot
+slot_text-built dtype None built = refl
+slot_text-built dtype (Some (Flat (Whole x))) built =
+    by_built_type (λ dtype. slot_text Int64 (Some (Flat (Whole x))) ≡ slot_text dtype (Some (Flat (Whole x))))
     refl (λ unit zone. refl) (λ unit. refl) refl dtype built
+slot_text-built dtype (Some (Flat (Bytes bytes))) built = refl
+slot_text-built dtype (Some (Nested leaves)) built = refl
 
-rows_by : (dtype : DataType) (ticks : List (Option ℤ)) → is_built_type dtype ≡ true
-    → flat_map (λ slot. line_of (tick_text slot)) ticks
-    ≡ flat_map (λ slot. line_of (slot_text dtype slot)) (map integer_slot ticks)
-rows_by dtype [] built = refl
-rows_by dtype (tick ∷ ticks) built =
-    ap (λ text. line_of text ++ flat_map (λ slot. line_of (tick_text slot)) ticks)
-    (tick_text-slot dtype tick built)
-    ∙ ap (λ rest. line_of (slot_text dtype (integer_slot tick)) ++ rest) (rows_by dtype ticks built)
-
--- the lines of ticks are those of the slots that they are
-pub rows_of-ticks : (dtype : DataType) (ticks : List (Option ℤ)) (slots : List (Option Value))
-    → is_built_type dtype ≡ true → map integer_slot ticks ≡ slots
-    → flat_map (λ slot. line_of (tick_text slot)) ticks
-    ≡ flat_map (λ slot. line_of (slot_text dtype slot)) slots
-rows_of-ticks dtype ticks slots built e =
-    rows_by dtype ticks built ∙ ap (flat_map (λ slot. line_of (slot_text dtype slot))) e
+-- the lines of the slots of such a type
+pub rows_of-slots : (dtype : DataType) (slots : List (Option Value)) → is_built_type dtype ≡ true
+    → flat_map slot_line slots ≡ flat_map (λ slot. line_of (slot_text dtype slot)) slots
+rows_of-slots dtype [] built = refl
+rows_of-slots dtype (slot ∷ slots) built =
+    ap (λ text. line_of text ++ flat_map slot_line slots) (slot_text-built dtype slot built)
+    ∙ ap (λ rest. line_of (slot_text dtype slot) ++ rest) (rows_of-slots dtype slots built)
 
 -- a text that is made of two parts, by what each part is
 pub parts_text : (text given header rows shown : List ℕ) → text ≡ given ++ rows → given ≡ header → rows ≡ shown

@@ -17,7 +17,7 @@ use Rattle.col_text.specs.Numbers.{integer_of, number_of}
 use Rattle.col_text.specs.Types.{column_dtype, target_named}
 use Rattle.col_text.specs.Zone.{is_zone_name}
 use Rattle.col_text.specs.Symbols.{symbol_of}
-use Rattle.col_text.specs.Slots.{is_name, chunks_of}
+use Rattle.col_text.specs.Slots.{is_name, chunks_of, in_chunks}
 use Rattle.col_text.specs.Expression.{expression_line}
 use Rattle.col_text.specs.Script.{script_of}
 use Rattle.col_text.specs.Answer.{column_text, fault_text, bad_line_text}
@@ -118,7 +118,7 @@ expressions = (refl, refl, refl, refl, refl, refl, refl)
 -- a zone serves the lines behind it, also twice, and none before it
 zones : (script_of (codes "zone a/b\nzone a/b\ncol a datetime[ns,a/b]\nexpr $0")
     ≡ Ok (record {
-      inputs = in_one_chunk (record {
+      inputs = in_chunks [] (record {
         name = codes "a";
         dtype = Datetime Nanoseconds (Some (codes "a/b"));
         slots = [];
@@ -145,6 +145,20 @@ whole_script : script_of (codes "col a datetime[ns] -1 null\r\n\nexpr $0")
       plan = [];
     })
 whole_script = refl
+
+-- bars end chunks, and a chunk without a slot is dropped
+bars : script_of (codes "col a date | 1 | | null 2 |\nexpr $0")
+    ≡ Ok (record {
+      inputs = in_chunks (1 ∷ 2 ∷ []) (record {
+        name = codes "a";
+        dtype = Date;
+        slots = Some (whole (pos 1)) ∷ None ∷ Some (whole (pos 2)) ∷ [];
+        flag = Not;
+      }) ∷ [];
+      expr = Input 0;
+      plan = [];
+    })
+bars = refl
 
 -- the first bad line is named, and the one behind the last where no expression comes
 bad_lines : (script_of [] ≡ Err 1) × (script_of (13 ∷ []) ≡ Err 2)

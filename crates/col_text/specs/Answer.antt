@@ -3,7 +3,7 @@ use Rattle.std.specs.Prelude.{ℕ, zero, ℤ, pos, ◌++◌, List, [], ◌∷◌
 use Rattle.std.specs.Prelude.{codes}
 use Rattle.std.specs.List.{flat_map}
 use Rattle.std.specs.Fmt.{decimal, signed_decimal}
-use Rattle.col_types.specs.declared.data_type.DataType.{DataType, Boolean}
+use Rattle.col_types.specs.declared.data_type.DataType.{DataType, Boolean, Int64}
 use Rattle.col_model.specs.Value.{Value, Flat, Nested, Whole, Bytes}
 use Rattle.col_model.specs.Column.{Column}
 use Rattle.col_expr.specs.declared.error.EvalError.{EvalError}
@@ -35,10 +35,9 @@ slot_text dtype (Some (Flat (Whole x))) = integer_text dtype x
 slot_text dtype (Some (Flat (Bytes bytes))) = []
 slot_text dtype (Some (Nested leaves)) = []
 
--- `null`, or an integer
-abbrev pub tick_text : Option ℤ → List ℕ
-tick_text None = codes "null"
-tick_text (Some x) = signed_decimal x
+-- the line of a slot of a type that is built, whose values all are integers
+abbrev pub slot_line : Option Value → List ℕ
+slot_line slot = line_of (slot_text Int64 slot)
 
 -- the line of the name, the type and the number of rows
 abbrev pub header_text : Column → List ℕ

@@ -1,34 +1,19 @@
 // The texts of answers.
-ghost use Rattle.std.specs.Prelude.{
-  ◌≡◌,
-  ◌≤◌,
-  ◌-◌,
-  ◌++◌,
-  ◌∷◌,
-  [],
-  OnOk,
-  IfOk,
-  length,
-  drop,
-  string_bytes,
-};
+ghost use Rattle.std.specs.Prelude.{◌≡◌, ◌++◌, OnOk, IfOk, string_bytes};
 ghost use Rattle.std.specs.List.{flat_map};
-ghost use Rattle.std.specs.Fmt.{signed_decimal};
 ghost use Rattle.col_text.specs.Answer.{
   HasText,
   bad_line_text,
   column_text,
   fault_text,
   header_text,
-  line_feed,
-  line_of,
-  tick_text,
+  slot_line,
 };
 
 use crate::dtypes::push_dtype;
+use crate::rows::push_chunks;
 use col_expr::EvalError;
-use col_series::Series;
-use itoa::write_digits;
+use col_series::{Physical, Series};
 use std::alloc::{AllocError, Global};
 
 fn push_header(text: &mut String, column: &Series) -> Result<(), AllocError>
@@ -49,53 +34,15 @@ fn header(alloc: Global, column: &Series) -> Result<Vec<u8>, AllocError>
     Ok(text.into_bytes())
 }
 
-/// A sign, 19 digits and a line feed.
-const LONGEST_LINE: usize = 21;
-
-/// Writes the line of a tick at the end of the buffer, where its line feed stands already, and
-/// tells where it begins.
-fn write_tick(line: &mut [u8], tick: i64) -> usize
-    requires size { length line.old ≡ LONGEST_LINE }
-    requires end { drop (LONGEST_LINE - 1) line.old ≡ line_feed ∷ [] }
-    ensures start { result ≤ LONGEST_LINE }
-    ensures written { drop result line.new ≡ line_of (signed_decimal tick) }
-    ensures end { drop (LONGEST_LINE - 1) line.new ≡ line_feed ∷ [] }
-{
-    let start = write_digits(tick.unsigned_abs(), line, LONGEST_LINE - 1);
-    if tick >= 0 {
-        return start;
-    }
-    line[start - 1] = b'-';
-    start - 1
-}
-
-/// Adds the line of a slot, in one piece.
-fn push_row(text: &mut Vec<u8>, line: &mut [u8], slot: Option<i64>) -> Result<(), AllocError>
-    requires size { length line.old ≡ LONGEST_LINE }
-    requires end { drop (LONGEST_LINE - 1) line.old ≡ line_feed ∷ [] }
-    ensures text { OnOk result (text.new.items ≡ text.old.items ++ line_of (tick_text slot)) }
-    ensures end { drop (LONGEST_LINE - 1) line.new ≡ line_feed ∷ [] }
-{
-    match slot {
-        Some(tick) => {
-            let start = write_tick(line, tick);
-            text.extend_from_slice(&line[start..])
-        }
-        None => text.extend_from_slice(b"null\n"),
-    }
-}
-
-// A function of its own, so that its loop has the registers to itself.
-#[inline(never)]
-fn push_rows(text: &mut Vec<u8>, ticks: &[Option<i64>]) -> Result<(), AllocError>
+/// Adds the lines of a column's slots.
+fn push_rows(text: &mut Vec<u8>, column: &Series) -> Result<(), AllocError>
     ensures text { OnOk result (text.new.items ≡ text.old.items
-        ++ flat_map (λ slot. line_of (tick_text slot)) ticks.now) }
+        ++ flat_map slot_line column.now.column.slots) }
 {
-    let mut line = [b'\n'; LONGEST_LINE];
-    for slot in ticks {
-        push_row(text, &mut line, *slot)?;
+    match column.physical() {
+        Physical::Int32(words) => push_chunks(text, words.chunks()),
+        Physical::Int64(words) => push_chunks(text, words.chunks()),
     }
-    Ok(())
 }
 
 /// The answer of a column: a line of its name, its type and the number of its rows, and then a line
@@ -105,7 +52,7 @@ pub fn answer_text(alloc: Global, column: &Series) -> Result<Vec<u8>, AllocError
 {
     column.known();
     let mut text = header(alloc, column)?;
-    push_rows(&mut text, column.ticks())?;
+    push_rows(&mut text, column)?;
     Ok(text)
 }
 

@@ -19,23 +19,26 @@ fn column(alloc: Global, dtype: &DataType, slots: &[Option<i128>]) -> PolarsResu
     Series::from_slots(alloc, name, dtype, slots)
 }
 
+/// The slot of a row, null past the rows.
+fn slot_at(column: &Series, row: usize) -> Option<i64> {
+    match column.get(row) {
+        Ok(AnyValue::Date(day)) => Some(i64::from(day)),
+        Ok(AnyValue::Datetime(tick, _, _) | AnyValue::Duration(tick, _)) => Some(tick),
+        Ok(AnyValue::Time(nanos)) => Some(nanos),
+        Ok(AnyValue::Null) | Err(_) => None,
+    }
+}
+
 /// The first slot of an answer.
 fn first(answer: PolarsResult<Series>) -> PolarsResult<Option<i64>> {
     let column = answer?;
-    match column.ticks() {
-        [slot, ..] => Ok(*slot),
-        [] => Ok(None),
-    }
+    Ok(slot_at(&column, 0))
 }
 
 /// The first two slots of an answer, null past its rows.
 fn both(answer: PolarsResult<Series>) -> PolarsResult<(Option<i64>, Option<i64>)> {
     let column = answer?;
-    match column.ticks() {
-        [first, second, ..] => Ok((*first, *second)),
-        [first] => Ok((*first, None)),
-        [] => Ok((None, None)),
-    }
+    Ok((slot_at(&column, 0), slot_at(&column, 1)))
 }
 
 /// What one value of each type gives.
@@ -99,19 +102,43 @@ fn types_without_an_operator_are_refused(rt: HostRuntime) {
     );
 }
 
+/// The number of rows of an answer, and its first two slots.
+fn rows(answer: PolarsResult<Series>) -> PolarsResult<(usize, Option<i64>, Option<i64>)> {
+    let column = answer?;
+    Ok((column.len(), slot_at(&column, 0), slot_at(&column, 1)))
+}
+
+/// The difference of dates.
+fn dates_apart(
+    alloc: Global,
+    left: &[Option<i128>],
+    right: &[Option<i128>],
+) -> PolarsResult<(usize, Option<i64>, Option<i64>)> {
+    let left = column(alloc, &DataType::Date, left)?;
+    let right = column(alloc, &DataType::Date, right)?;
+    rows(left.try_sub(alloc, &right))
+}
+
+/// The sum of dates and times, which no type has.
+fn dates_and_times(
+    alloc: Global,
+    dates: &[Option<i128>],
+    times: &[Option<i128>],
+) -> PolarsResult<(usize, Option<i64>, Option<i64>)> {
+    let dates = column(alloc, &DataType::Date, dates)?;
+    let times = column(alloc, &DataType::Time, times)?;
+    rows(dates.try_add(alloc, &times))
+}
+
 #[test]
-fn lengths_come_first(rt: HostRuntime) -> Result<(), Fail> {
+fn lengths_come_first(rt: HostRuntime) {
     let alloc = rt.alloc();
-    let one = column(alloc, &DataType::Date, &[Some(1)])?;
-    let none = column(alloc, &DataType::Date, &[])?;
-    assert_eq!(rt; one.try_sub(alloc, &none)?.len(), 0);
-    let two = column(alloc, &DataType::Date, &[Some(1), Some(2)])?;
-    let three = column(alloc, &DataType::Time, &[Some(1), None, Some(2)])?;
+    assert_eq!(rt; dates_apart(alloc, &[Some(1)], &[]), Ok((0, None, None)));
     let refused = PolarsError::Lengths { left: 2, right: 3 };
-    assert_eq!(rt; first(two.try_add(alloc, &three)), Err(refused));
-    let apart = both(one.try_sub(alloc, &two));
-    assert_eq!(rt; apart, Ok((Some(0), Some(-86_400_000))));
-    Ok(())
+    let answer = dates_and_times(alloc, &[Some(1), Some(2)], &[Some(1), None, Some(2)]);
+    assert_eq!(rt; answer, Err(refused));
+    let apart = dates_apart(alloc, &[Some(1)], &[Some(1), Some(2)]);
+    assert_eq!(rt; apart, Ok((2, Some(0), Some(-86_400_000))));
 }
 
 #[test]

@@ -9,3 +9,5 @@ mod logical;
 mod numeric;
 #[cfg(test)]
 mod series;
+#[cfg(test)]
+mod typed;

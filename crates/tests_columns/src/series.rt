@@ -86,17 +86,24 @@ fn shifted(alloc: Global, periods: i64) -> PolarsResult<(Option<i64>, Option<i64
     ))
 }
 
+/// A copy of the column of -1 and a null, which outlives it.
+fn copied(alloc: Global, dtype: &DataType) -> PolarsResult<Series>
+    requires built_type { is_built_type dtype.now ≡ true }
+{
+    let column = column(alloc, dtype, &[Some(-1), None])?;
+    column.known();
+    column.try_clone(alloc)
+}
+
 #[test]
 fn columns_read_back(rt: HostRuntime) -> Result<(), Fail> {
     let dtype = DataType::Datetime(MILLIS, Some(TimeZone::utc()));
-    let column = column(rt.alloc(), &dtype, &[Some(-1), None])?;
-    column.known();
-    let copy = column.try_clone(rt.alloc())?;
+    let copy = copied(rt.alloc(), &dtype)?;
     assert_eq!(rt; copy.name().as_str(), "start");
     assert!(rt; copy.dtype().is_same(&dtype));
-    assert_eq!(rt; tick_at(&copy, 0)?, Some(-1));
-    assert_eq!(rt; tick_at(&copy, 1)?, None);
-    assert_eq!(rt; copy.ticks().len(), 2);
+    assert_eq!(rt; tick_at(&copy, 0), Ok(Some(-1)));
+    assert_eq!(rt; tick_at(&copy, 1), Ok(None));
+    assert_eq!(rt; copy.len(), 2);
     let wanted = PolarsError::OutOfBounds { index: 2, len: 2 };
     assert_eq!(rt; tick_at(&copy, 2), Err(wanted));
     Ok(())

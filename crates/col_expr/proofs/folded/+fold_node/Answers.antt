@@ -1,11 +1,12 @@
-use Rattle.std.proofs.Common.{◌∙◌}
+use Rattle.std.proofs.Common.{◌≡◌, ◌+◌, ◌∙◌, arith, subst, sym}
 use Rattle.std.proofs.lemmas.Result.{err_from_is_err_and}
 use Rattle.col_model.specs.Chunked.{column_of, columns_of}
 use Rattle.col_expr.specs.Node.{node_tree}
-use Rattle.col_expr.specs.Folded.{plan_if, folded_by}
+use Rattle.col_expr.specs.Folded.{Numbered, plan_if, folded_by}
 use Rattle.col_expr.specs.Numbers.{Join, numbers_from}
-use Rattle.col_expr.specs.Tree.{Binary}
-use Rattle.col_expr.proofs.FoldNodes.{node_refused, both_ready, node_both}
+use Rattle.col_expr.specs.Tree.{Binary, node_count}
+use Rattle.col_expr.specs.Waiting.{IsFolding}
+use Rattle.col_expr.proofs.FoldNodes.{node_over, node_refused, both_ready, node_both, on_ok-always}
 use Rattle.col_expr.proofs.folded.+fold_node.Goals as goal
 
 pub returns-in_err-below-in-Unary-clause-folded : goal.returns-in_err-below-in-Unary-clause-folded
@@ -53,3 +54,33 @@ returns-in_ok-right-in-Binary-2-clause-folded g t c =
     c.binary_column.result left.found right.found c.binary_column.ensures.answer left.counted
     right.counted (rw c.counted.ensures.answer at c.counted.ensures.steps)))
     (λ change h. cc)))
+
+pub returns-in_ok-below-in-Unary-clause-folded : goal.returns-in_ok-below-in-Unary-clause-folded
+returns-in_ok-below-in-Unary-clause-folded g t c =
+    let inputs = columns_of c.args.inputs.now in
+    let plan = plan_if c.args.valid c.args.plan.now in
+    let tree = node_tree c.in-Unary.operand.value in
+    let number = rw c.deref.ensures at
+    (c.take_number-number-in-Unary.ensures.number ∙ c.in_ok-below-in-Unary.ensures.next) in
+    let P : Numbered → Type 0 = λ f.
+    IsFolding inputs f c.args.steps.now c.fold_unary.new.steps c.fold_unary.result in
+    rw c.in-Unary.is
+    (subst P (sym (node_over inputs plan c.args.next.now c.take_number-number-in-Unary.result
+    c.in-Unary.operation tree number))
+    (c.fold_unary.ensures.folded inputs
+    (folded_by inputs plan (numbers_from c.args.next.now tree) tree) c.args.steps.now
+    (rw c.deref.ensures at c.in_ok-below-in-Unary.ensures.folded)))
+
+pub returns-in_ok-right-in-Binary-2-clause-next : goal.returns-in_ok-right-in-Binary-2-clause-next
+returns-in_ok-right-in-Binary-2-clause-next g t c =
+    let l = node_tree c.in-Binary.left.value in
+    let r = node_tree c.in-Binary.right.value in
+    let first : c.fold_node-in-Binary.new.next ≡ c.args.next.now + node_count l =
+    rw c.deref-in-Binary.ensures at c.in_ok-left-in-Binary.ensures.next in
+    let second : c.fold_node-in-Binary-2.new.next ≡ c.fold_node-in-Binary.new.next + node_count r =
+    rw c.deref-in-Binary-2.ensures at c.in_ok-right-in-Binary.ensures.next in
+    let last : c.take_number-number-in-Binary.new.next ≡ c.fold_node-in-Binary-2.new.next + 1 =
+    c.take_number-number-in-Binary.ensures.next in
+    let all : c.take_number-number-in-Binary.new.next
+    ≡ c.args.next.now + (node_count l + node_count r + 1) = omega (arith, first, second, last) in
+    rw c.in-Binary.is (on_ok-always _ c.none_waits-in-Binary.result all)

@@ -5,7 +5,7 @@ use Rattle.col_expr.specs.Node.{node_tree}
 use Rattle.col_expr.specs.PlanNode.{image_dtype, image_interval}
 use Rattle.col_expr.specs.FoundPlan.{fitting}
 use Rattle.col_expr.proofs.PlanNodeLemmas.{column_at}
-use Rattle.col_expr.proofs.FoundPlanLemmas.{input_found, input_plan, unary_found, unary_plan, plan_ends, binary_found, binary_plan, on_some, if_some}
+use Rattle.col_expr.proofs.FoundNodeLemmas.{input_found, input_plan, unary_found, unary_plan, plan_ends, binary_found, binary_plan, on_some, if_some}
 use Rattle.col_expr.proofs.found_plan.+cover_node.Goals as goal
 
 pub returns-in-Input-clause-part : goal.returns-in-Input-clause-part

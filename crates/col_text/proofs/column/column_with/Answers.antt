@@ -1,22 +1,52 @@
-use Rattle.std.proofs.Common.{Vec, Option, ℤ, Global}
+use Rattle.std.proofs.Common.{◌≡◌, ◌∙◌, ap, sym, rules, refl, Some}
+use Rattle.std.specs.Int.{w32, w64}
 use Rattle.col_token.specs.Tokens.{words_in}
-use Rattle.col_text.proofs.SlotLemmas.{column_with-typed_none, column_with-typed_some, reads_error}
+use Rattle.col_model.specs.Arithmetic.{Signed}
+use Rattle.col_model.specs.Column.{values_of}
+use Rattle.col_model.specs.Words.{word_dtype}
+use Rattle.col_text.specs.Slots.{interval_of, DateRange, TimeRange, WordRange}
+use Rattle.col_text.proofs.ColumnLemmas.{column_reads, column_stops, times_lie}
 use Rattle.col_text.proofs.column.column_with.Goals as goal
 
-pub column_of_slots-requires-clause-fit : goal.column_of_slots-requires-clause-fit
-column_of_slots-requires-clause-fit c =
-    (column_with-typed_some c.args.name.now c.args.dtype (words_in c.args.line.now) c.in-Ok.slots.items
-    c.requires.built c.in-Ok.ensures.slots).fit
+pub from_int64-requires-clause-day : goal.from_int64-requires-clause-day
+from_int64-requires-clause-day c =
+    rw c.in-Time.is (times_lie c.args.name.now (word_dtype (Signed w64)) (words_in c.args.line.now) c.in-Ok-words_with.words c.in-Ok-words_with.ensures.column)
 
 pub returns-in-Ok : goal.returns-in-Ok
-returns-in-Ok c = record {
-  column = let read = column_with-typed_some c.args.name.now c.args.dtype (words_in c.args.line.now)
-      c.in-Ok.slots.items c.requires.built c.in-Ok.ensures.slots in
-      rw read.column c.column_of_slots.ensures.column;
-}
+returns-in-Ok c =
+    let values : values_of c.args.dtype ≡ Some (interval_of DateRange) = rw c.in-Date.is refl in
+    record {
+      column = column_reads c.args.name.now c.args.dtype (word_dtype (Signed w32)) DateRange (words_in c.args.line.now) c.in-Ok.words c.requires.built values c.in-Ok.ensures.column
+          ∙ ap Some (sym c.from_int32.ensures.column);
+    }
 
 pub returns-in-Err : goal.returns-in-Err
-returns-in-Err c = record {
-  column = reads_error (λ (v : Vec (Option ℤ) Global). v.items) c.in-Err.error _ _ c.in-Err.ensures.slots
-      (column_with-typed_none c.args.name.now c.args.dtype (words_in c.args.line.now) c.requires.built);
-}
+returns-in-Err c =
+    let values : values_of c.args.dtype ≡ Some (interval_of DateRange) = rw c.in-Date.is refl in
+    record { column = column_stops c.args.name.now c.args.dtype (word_dtype (Signed w32)) DateRange (words_in c.args.line.now) c.in-Err.error c.requires.built values c.in-Err.ensures.column }
+
+pub returns-in-Ok-words_with : goal.returns-in-Ok-words_with
+returns-in-Ok-words_with c =
+    let values : values_of c.args.dtype ≡ Some (interval_of TimeRange) = rw c.in-Time.is refl in
+    record {
+      column = column_reads c.args.name.now c.args.dtype (word_dtype (Signed w64)) TimeRange (words_in c.args.line.now) c.in-Ok-words_with.words c.requires.built values c.in-Ok-words_with.ensures.column
+          ∙ ap Some (sym c.from_int64.ensures.column);
+    }
+
+pub returns-in-Err-words_with : goal.returns-in-Err-words_with
+returns-in-Err-words_with c =
+    let values : values_of c.args.dtype ≡ Some (interval_of TimeRange) = rw c.in-Time.is refl in
+    record { column = column_stops c.args.name.now c.args.dtype (word_dtype (Signed w64)) TimeRange (words_in c.args.line.now) c.in-Err-words_with.error c.requires.built values c.in-Err-words_with.ensures.column }
+
+pub returns-in-Ok-words_with-2 : goal.returns-in-Ok-words_with-2
+returns-in-Ok-words_with-2 c =
+    let values : values_of c.args.dtype ≡ Some (interval_of WordRange) = search (rules, c.in-Datetime.is) in
+    record {
+      column = column_reads c.args.name.now c.args.dtype (word_dtype (Signed w64)) WordRange (words_in c.args.line.now) c.in-Ok-words_with-2.words c.requires.built values c.in-Ok-words_with-2.ensures.column
+          ∙ ap Some (sym c.from_int64-in-Ok-words_with-2.ensures.column);
+    }
+
+pub returns-in-Err-words_with-2 : goal.returns-in-Err-words_with-2
+returns-in-Err-words_with-2 c =
+    let values : values_of c.args.dtype ≡ Some (interval_of WordRange) = search (rules, c.in-Datetime.is) in
+    record { column = column_stops c.args.name.now c.args.dtype (word_dtype (Signed w64)) WordRange (words_in c.args.line.now) c.in-Err-words_with-2.error c.requires.built values c.in-Err-words_with-2.ensures.column }
