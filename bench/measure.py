@@ -13,9 +13,10 @@ import subprocess
 import sys
 
 # A script, and the most that the program may take of its peer's processor time and of its memory.
-TARGETS = (("long", 0.75, 1.0), ("short", 1.1, 1.6), ("sum", 0.8, 1.3))
-# The most that folding may take of the time of evaluating.
+TARGETS = (("long", 0.7, 1.0), ("short", 0.95, 1.0), ("sum", 0.7, 1.0))
+# The most that folding may take of the time of evaluating, and that of the peer's.
 MOST_FOLDED = 0.1
+MOST_CHAINED = 1.1
 # Linux counts the resident size in units of 1024 bytes.
 RESIDENT_UNIT = 1024
 
@@ -72,14 +73,15 @@ def is_like_peer(program, peer, folder, runs):
 
 
 def is_folded(program, peer, folder, runs):
-    """Whether a long chain of casts is folded in a small part of the time that it takes."""
+    """Whether a long chain of casts keeps its target, and is folded in a small part of its time."""
     commands = {"eval": [program, "eval"], "fold": [program, "fold"], "peer": [peer, "eval"]}
     used = compare(commands, folder, "chain", runs)
     seconds = {who: time for who, (time, _) in used.items()}
     part = seconds["fold"] / seconds["eval"]
-    is_met = part <= MOST_FOLDED
+    chained = seconds["eval"] / seconds["peer"]
+    is_met = part <= MOST_FOLDED and chained <= MOST_CHAINED
     print(
-        f"chain: eval {seconds['eval'] / seconds['peer']:.2f} times its peer, "
+        f"chain: eval {chained:.2f} times its peer (at most {MOST_CHAINED}), "
         f"fold {seconds['fold'] / seconds['peer']:.3f} times its peer; "
         f"fold {part:.3f} times eval (at most {MOST_FOLDED}): {'met' if is_met else 'MISSED'}"
     )

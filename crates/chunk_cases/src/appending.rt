@@ -1,9 +1,11 @@
 // Calls that put the rows of one column behind those of another.
-use crate::column::Int64Column;
-use crate::plain;
-use crate::subject::{Case, Layout, NAME, Nulls, Subject, lengths_of};
+use crate::lengths::Lengths;
+use crate::plain::{Order, Rows};
+use crate::subject::{Case, Layout, Nulls, Subject};
 use crate::tally::Tally;
 use anyhow::Result;
+use col_chunk::Int64Chunked;
+use col_types::PolarsResult;
 use std::alloc::Global;
 
 /// What is put behind: no rows, a part of a chunk, several chunks, nulls.
@@ -15,7 +17,7 @@ const OTHERS: [Case; 4] = [
     },
     Case {
         rows: 65,
-        layout: Layout::Slice { offset: 63 },
+        layout: Layout::Slice { first: 63 },
         nulls: Nulls::EverySecond,
     },
     Case {
@@ -32,8 +34,8 @@ const OTHERS: [Case; 4] = [
 
 /// `append`, `extend`, `append_owned`.
 pub fn check_appending(alloc: Global, subject: &Subject, tally: &mut Tally) -> Result<()> {
-    for case in OTHERS {
-        check_behind(alloc, subject, &Subject::new(alloc, &case)?, tally)?;
+    for case in &OTHERS {
+        check_behind(alloc, subject, &Subject::new(alloc, case)?, tally)?;
     }
     check_behind(alloc, subject, subject, tally)
 }
@@ -44,44 +46,53 @@ fn check_behind(
     other: &Subject,
     tally: &mut Tally,
 ) -> Result<()> {
-    let slots = plain::joined(alloc, subject.slots(), other.slots())?;
-    let lengths = joined_lengths(alloc, &subject.column, &other.column)?;
-    let mut column = subject.column.try_clone(alloc)?;
-    column.append(&other.column)?;
-    tally.expect_column("append", &column, NAME, slots.as_slice());
-    tally.expect_lengths("append", &column, lengths.as_slice());
-    let mut column = subject.column.try_clone(alloc)?;
-    let handed = column.append_owned(other.column.try_clone(alloc)?);
-    tally.expect("append_owned", handed.is_ok());
-    tally.expect_column("append_owned", &column, NAME, slots.as_slice());
-    tally.expect_lengths("append_owned", &column, lengths.as_slice());
-    check_extend(alloc, subject, other, slots.as_slice(), tally)?;
-    tally.expect_column("the shorter one", &subject.column, NAME, subject.slots());
-    tally.expect_column("the other one", &other.column, NAME, other.slots());
+    let (column, behind) = (&subject.column, &other.column);
+    let rows = Rows {
+        slots: subject.slots.as_slice(),
+        order: Order::Followed(other.slots.as_slice()),
+    };
+    let lengths = Lengths::Followed(column, behind);
+    tally.expect_chunks("append", appended(alloc, column, behind), &rows, &lengths)?;
+    let answer = appended_owned(alloc, column, behind);
+    tally.expect("append_owned", answer.is_ok());
+    tally.expect_chunks("append_owned", answer, &rows, &lengths)?;
+    // It makes the last chunk longer, or makes one where there is none.
+    let lengths = Lengths::Extended(column, other.slots.len());
+    tally.expect_chunks("extend", extended(alloc, column, behind), &rows, &lengths)?;
+    tally.expect_slots("the shorter one", column, subject.slots.as_slice());
+    tally.expect_slots("the other one", behind, other.slots.as_slice());
     Ok(())
 }
 
-/// The rows of the chunks of both.
-fn joined_lengths(alloc: Global, first: &Int64Column, second: &Int64Column) -> Result<Vec<usize>> {
-    let first = lengths_of(alloc, first)?;
-    let second = lengths_of(alloc, second)?;
-    Ok(plain::joined(alloc, first.as_slice(), second.as_slice())?)
-}
-
-/// `extend` makes the last chunk longer, or makes one where there is none.
-fn check_extend(
+fn appended(
     alloc: Global,
-    subject: &Subject,
-    other: &Subject,
-    slots: &[Option<i64>],
-    tally: &mut Tally,
-) -> Result<()> {
-    let mut lengths = lengths_of(alloc, &subject.column)?;
-    let last = lengths.pop().unwrap_or(0);
-    lengths.push(last.saturating_add(other.case.rows))?;
-    let mut column = subject.column.try_clone(alloc)?;
-    column.extend(&other.column)?;
-    tally.expect_column("extend", &column, NAME, slots);
-    tally.expect_lengths("extend", &column, lengths.as_slice());
-    Ok(())
+    column: &Int64Chunked,
+    behind: &Int64Chunked,
+) -> PolarsResult<Int64Chunked> {
+    let mut column = column.try_clone(alloc)?;
+    column.append(behind)?;
+    Ok(column)
+}
+
+fn appended_owned(
+    alloc: Global,
+    column: &Int64Chunked,
+    behind: &Int64Chunked,
+) -> PolarsResult<Int64Chunked> {
+    let behind = behind.try_clone(alloc)?;
+    let mut column = column.try_clone(alloc)?;
+    match column.append_owned(behind) {
+        Ok(()) => Ok(column),
+        Err((_, refusal)) => Err(refusal),
+    }
+}
+
+fn extended(
+    alloc: Global,
+    column: &Int64Chunked,
+    behind: &Int64Chunked,
+) -> PolarsResult<Int64Chunked> {
+    let mut column = column.try_clone(alloc)?;
+    column.extend(behind)?;
+    Ok(column)
 }

@@ -3,13 +3,12 @@
 #![tactic(auto)]
 
 mod appending;
-mod column;
 mod known;
+mod lengths;
 mod limits;
 mod parts;
 mod plain;
 mod readers;
-mod reductions;
 mod rows;
 mod sharing;
 mod subject;
@@ -23,8 +22,7 @@ use subject::{Case, LAYOUTS, NULLS, ROWS, Subject};
 use tally::Tally;
 
 /// Calls that are made on each column.
-#[derive(Clone, Copy)]
-enum Group {
+enum Calls {
     Readers,
     Makers,
     Copies,
@@ -36,83 +34,91 @@ enum Group {
     Walks,
 }
 
-const GROUPS: [Group; 9] = [
-    Group::Readers,
-    Group::Makers,
-    Group::Copies,
-    Group::Parts,
-    Group::Rows,
-    Group::Appending,
-    Group::Reductions,
-    Group::Writes,
-    Group::Walks,
+/// What is compared together.
+enum Group {
+    /// Calls on a column of each kind.
+    Each(Calls),
+    Known,
+    Limits,
+    Shared,
+    InPlace,
+}
+
+/// Each group, and what is printed before its counts.
+const GROUPS: [(&str, Group); 13] = [
+    ("read", Group::Each(Calls::Readers)),
+    ("make", Group::Each(Calls::Makers)),
+    ("copy", Group::Each(Calls::Copies)),
+    ("slice, split, shift", Group::Each(Calls::Parts)),
+    ("take, turn, drop nulls, repeat", Group::Each(Calls::Rows)),
+    ("append, extend", Group::Each(Calls::Appending)),
+    ("reduce", Group::Each(Calls::Reductions)),
+    ("write", Group::Each(Calls::Writes)),
+    ("walk", Group::Each(Calls::Walks)),
+    ("known values", Group::Known),
+    ("too many rows", Group::Limits),
+    ("shared at once", Group::Shared),
+    ("written in place", Group::InPlace),
 ];
 
 impl Group {
-    fn title(self) -> &'static str {
+    fn check(&self, alloc: Global, tally: &mut Tally) -> Result<()> {
         match self {
-            Group::Readers => "read",
-            Group::Makers => "make",
-            Group::Copies => "copy",
-            Group::Parts => "slice, split, shift",
-            Group::Rows => "take, turn, drop nulls, repeat",
-            Group::Appending => "append, extend",
-            Group::Reductions => "reduce",
-            Group::Writes => "write",
-            Group::Walks => "walk",
+            Group::Each(calls) => calls.check_each(alloc, tally),
+            Group::Known => known::check_known(alloc, tally),
+            Group::Limits => limits::check_limits(alloc, tally),
+            Group::Shared => sharing::check_parts(alloc, tally),
+            Group::InPlace => sharing::check_writes(alloc, tally),
         }
     }
+}
 
-    fn check(self, alloc: Global, case: &Case, tally: &mut Tally) -> Result<()> {
-        let subject = Subject::new(alloc, case)?;
-        match self {
-            Group::Readers => readers::check_readers(alloc, &subject, tally),
-            Group::Makers => readers::check_makers(alloc, &subject, tally),
-            Group::Copies => readers::check_copies(alloc, &subject, tally),
-            Group::Parts => parts::check_parts(alloc, &subject, tally),
-            Group::Rows => rows::check_rows(alloc, &subject, tally),
-            Group::Appending => appending::check_appending(alloc, &subject, tally),
-            Group::Reductions => reductions::check_reductions(alloc, &subject, tally),
-            Group::Writes => writes::check_writes(alloc, &subject, tally),
-            Group::Walks => walks::check_walks(alloc, &subject, tally),
-        }
-    }
-
+impl Calls {
     /// Makes the calls on a column of each kind.
-    fn check_each(self, alloc: Global) -> Result<Tally> {
-        let mut tally = Tally::new();
+    fn check_each(&self, alloc: Global, tally: &mut Tally) -> Result<()> {
         for rows in ROWS {
-            for layout in LAYOUTS {
-                for nulls in NULLS {
+            for (form, layout) in LAYOUTS {
+                for (validity, nulls) in NULLS {
                     let case = Case {
                         rows,
                         layout,
                         nulls,
                     };
-                    self.check(alloc, &case, &mut tally)?;
-                    tally.end().context(format_args!("{case:?}"))?;
+                    self.check_case(alloc, &Subject::new(alloc, &case)?, tally)?;
+                    tally
+                        .end()
+                        .context(format_args!("{rows} rows, {form}, {validity}"))?;
                 }
             }
         }
-        Ok(tally)
+        Ok(())
     }
-}
 
-/// Tells what was compared, or an error where a case didn't hold.
-fn report(rt: &impl Print, title: &str, tally: &Tally) -> Result<()> {
-    tally.end().context(format_args!("{title}"))?;
-    println!(rt; "{title}: {} cases, {} reads", tally.cases, tally.reads)?;
-    Ok(())
+    fn check_case(&self, alloc: Global, subject: &Subject, tally: &mut Tally) -> Result<()> {
+        match self {
+            Calls::Readers => readers::check_readers(subject, tally),
+            Calls::Makers => readers::check_makers(alloc, subject, tally)?,
+            Calls::Copies => readers::check_copies(alloc, subject, tally)?,
+            Calls::Parts => parts::check_parts(alloc, subject, tally)?,
+            Calls::Rows => rows::check_rows(alloc, subject, tally)?,
+            Calls::Appending => appending::check_appending(alloc, subject, tally)?,
+            Calls::Reductions => {
+                let totals = plain::totals_of(subject.slots.as_slice());
+                tally.expect_totals(&subject.column, &totals);
+            }
+            Calls::Writes => writes::check_writes(alloc, subject, tally)?,
+            Calls::Walks => walks::check_walks(alloc, subject, tally)?,
+        }
+        Ok(())
+    }
 }
 
 fn main(rt: HostRuntime) -> Result<()> {
-    let alloc = rt.alloc();
-    for group in GROUPS {
-        report(&rt, group.title(), &group.check_each(alloc)?)?;
+    for (title, group) in &GROUPS {
+        let mut tally = Tally::new();
+        group.check(rt.alloc(), &mut tally).context(*title)?;
+        tally.end().context(*title)?;
+        println!(rt; "{title}: {} cases, {} reads", tally.cases, tally.reads)?;
     }
-    report(&rt, "known values", &known::check_known(alloc)?)?;
-    report(&rt, "too many rows", &limits::check_limits(alloc)?)?;
-    report(&rt, "shared at once", &sharing::check_parts(alloc)?)?;
-    report(&rt, "written in place", &sharing::check_writes(alloc)?)?;
     Ok(())
 }

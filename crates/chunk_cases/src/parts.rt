@@ -1,5 +1,5 @@
 // Calls that answer a part of a column, or its rows moved.
-use crate::plain;
+use crate::plain::{self, Order, Rows};
 use crate::subject::{NAME, Subject};
 use crate::tally::Tally;
 use anyhow::Result;
@@ -65,24 +65,28 @@ fn check_slice(
     length: usize,
     tally: &mut Tally,
 ) -> Result<()> {
-    let slots = plain::sliced(alloc, subject.slots(), offset, length)?;
-    let column = subject.column.slice(alloc, offset, length)?;
-    tally.expect_column("slice", &column, NAME, slots.as_slice());
-    Ok(())
+    let slots = subject.slots.as_slice();
+    let from = plain::place_of(slots.len(), offset);
+    let rows = plain::between(slots, from, from.wrapping_add(length as i128));
+    tally.expect_answer("slice", subject.column.slice(alloc, offset, length), &rows)
 }
 
 fn check_split(alloc: Global, subject: &Subject, offset: i64, tally: &mut Tally) -> Result<()> {
+    let slots = subject.slots.as_slice();
+    let place = plain::place_of(slots.len(), offset);
     let (before, behind) = subject.column.split_at(alloc, offset)?;
-    let slots = plain::before(alloc, subject.slots(), offset)?;
-    tally.expect_column("split_at, before", &before, NAME, slots.as_slice());
-    let slots = plain::behind(alloc, subject.slots(), offset)?;
-    tally.expect_column("split_at, behind", &behind, NAME, slots.as_slice());
+    let rows = plain::between(slots, 0, place);
+    tally.expect_column("split_at, before", &before, NAME, &rows);
+    let rows = plain::between(slots, place, slots.len() as i128);
+    tally.expect_column("split_at, behind", &behind, NAME, &rows);
     Ok(())
 }
 
 fn check_shift(alloc: Global, subject: &Subject, periods: i64, tally: &mut Tally) -> Result<()> {
-    let slots = plain::shifted(alloc, subject.slots(), periods)?;
-    let column = subject.column.shift(alloc, periods)?;
-    tally.expect_column("shift", &column, NAME, slots.as_slice());
-    Ok(())
+    let slots = subject.slots.as_slice();
+    let place = 0i128.wrapping_sub(i128::from(periods));
+    let rows = slots.len();
+    let order = Order::From { place, rows };
+    let answer = subject.column.shift(alloc, periods);
+    tally.expect_answer("shift", answer, &Rows { slots, order })
 }

@@ -1,7 +1,5 @@
 // The columns that calls are made on: so many rows, lying in chunks in some way, with some nulls.
-use crate::column::{Column, Int64Column};
-use anyhow::Result;
-use col_chunk::Word;
+use col_chunk::{ChunkedArray, Int64Chunked, Word};
 use col_types::{PlSmallStr, PolarsResult};
 use std::alloc::{AllocError, Global};
 
@@ -12,46 +10,40 @@ pub const NAME: &str = "subject";
 pub const OTHER_NAME: &str = "other";
 
 /// How many rows the columns have: none, one, and about the width of a word of validity.
-pub const ROWS: [usize; 6] = [0, 1, 63, 64, 65, 129];
+pub const ROWS: [u32; 6] = [0, 1, 63, 64, 65, 129];
 
-/// How the columns lie in chunks.
-pub const LAYOUTS: [Layout; 5] = [
-    Layout::OneChunk,
-    Layout::RowChunks,
-    Layout::Slice { offset: 1 },
-    Layout::Slice { offset: 63 },
-    Layout::Slice { offset: 64 },
+/// How the columns lie in chunks, and the words for it.
+pub const LAYOUTS: [(&str, Layout); 5] = [
+    ("one chunk", Layout::OneChunk),
+    ("chunks of one row", Layout::RowChunks),
+    ("a slice from row 1 on", Layout::Slice { first: 1 }),
+    ("a slice from row 63 on", Layout::Slice { first: 63 }),
+    ("a slice from row 64 on", Layout::Slice { first: 64 }),
 ];
 
-/// Which of their slots are null.
-pub const NULLS: [Nulls; 3] = [Nulls::NoSlot, Nulls::EachSlot, Nulls::EverySecond];
+/// Which of their slots are null, and the words for it.
+pub const NULLS: [(&str, Nulls); 3] = [
+    ("none null", Nulls::NoSlot),
+    ("each null", Nulls::EachSlot),
+    ("every second null", Nulls::EverySecond),
+];
 
 /// How many rows lie behind a slice in the column that it is one of.
-const BEHIND: usize = 2;
+const BEHIND: u32 = 2;
 
 /// How a column lies in chunks.
-#[derive(Clone, Copy, Debug)]
+#[derive(Clone, Copy)]
 pub enum Layout {
     /// All in one.
     OneChunk,
     /// Each row in its own.
     RowChunks,
-    /// All in one, which is a part of a longer one.
-    Slice { offset: u32 },
-}
-
-impl Layout {
-    /// How many rows stand in front in the same memory.
-    fn offset(self) -> u32 {
-        match self {
-            Layout::OneChunk | Layout::RowChunks => 0,
-            Layout::Slice { offset } => offset,
-        }
-    }
+    /// All in one, which is a part of a longer one from this row on.
+    Slice { first: u32 },
 }
 
 /// Which slots are null.
-#[derive(Clone, Copy, Debug)]
+#[derive(Clone, Copy)]
 pub enum Nulls {
     NoSlot,
     EachSlot,
@@ -59,9 +51,9 @@ pub enum Nulls {
 }
 
 /// What a column is like.
-#[derive(Clone, Copy, Debug)]
+#[derive(Clone, Copy)]
 pub struct Case {
-    pub rows: usize,
+    pub rows: u32,
     pub layout: Layout,
     pub nulls: Nulls,
 }
@@ -69,39 +61,37 @@ pub struct Case {
 /// A column, and the slots that it has to have.
 #[derive(Drop)]
 pub struct Subject {
-    pub case: Case,
-    pub column: Int64Column,
+    pub layout: Layout,
+    pub column: Int64Chunked,
     pub slots: Vec<Option<i64>>,
 }
 
 impl Subject {
-    pub fn new(alloc: Global, case: &Case) -> Result<Subject> {
-        let offset = case.layout.offset() as usize;
-        let slots = slots_from(alloc, case.nulls, offset, case.rows)?;
+    pub fn new(alloc: Global, case: &Case) -> PolarsResult<Subject> {
+        let first = match case.layout {
+            Layout::OneChunk | Layout::RowChunks => 0,
+            Layout::Slice { first } => first,
+        };
+        let slots = slots_from(alloc, case.nulls, first, case.rows)?;
         let column = column_of(alloc, case, slots.as_slice())?;
         Ok(Subject {
-            case: *case,
+            layout: case.layout,
             column,
             slots,
         })
     }
-
-    /// The slots, as they have to be.
-    pub fn slots(&self) -> &[Option<i64>] {
-        self.slots.as_slice()
-    }
 }
 
 /// The column of these slots, which are the case's.
-fn column_of(alloc: Global, case: &Case, slots: &[Option<i64>]) -> Result<Int64Column> {
+fn column_of(alloc: Global, case: &Case, slots: &[Option<i64>]) -> PolarsResult<Int64Chunked> {
     match case.layout {
-        Layout::OneChunk => Ok(in_one_chunk(alloc, NAME, slots)?),
-        Layout::RowChunks => Ok(in_row_chunks(alloc, NAME, slots)?),
-        Layout::Slice { offset } => {
-            let rows = case.rows.saturating_add(offset as usize);
-            let around = slots_from(alloc, case.nulls, 0, rows.saturating_add(BEHIND))?;
+        Layout::OneChunk => in_one_chunk(alloc, NAME, slots),
+        Layout::RowChunks => in_row_chunks(alloc, NAME, slots),
+        Layout::Slice { first } => {
+            let around = first.saturating_add(case.rows).saturating_add(BEHIND);
+            let around = slots_from(alloc, case.nulls, 0, around)?;
             let around = in_one_chunk(alloc, NAME, around.as_slice())?;
-            Ok(around.slice(alloc, i64::from(offset), case.rows)?)
+            around.slice(alloc, i64::from(first), case.rows as usize)
         }
     }
 }
@@ -115,12 +105,11 @@ pub fn word_at(place: u32) -> i64 {
 }
 
 /// The slot of a place.
-fn slot_at(nulls: Nulls, place: u32) -> Option<i64> {
+pub fn slot_at(nulls: Nulls, place: u32) -> Option<i64> {
     match nulls {
-        Nulls::NoSlot => Some(word_at(place)),
         Nulls::EachSlot => None,
         Nulls::EverySecond if place % 2 == 1 => None,
-        Nulls::EverySecond => Some(word_at(place)),
+        Nulls::NoSlot | Nulls::EverySecond => Some(word_at(place)),
     }
 }
 
@@ -128,23 +117,14 @@ fn slot_at(nulls: Nulls, place: u32) -> Option<i64> {
 pub fn slots_from(
     alloc: Global,
     nulls: Nulls,
-    first: usize,
-    rows: usize,
+    first: u32,
+    rows: u32,
 ) -> Result<Vec<Option<i64>>, AllocError> {
-    let mut slots = Vec::with_capacity(alloc, rows)?;
-    let mut place = 0u32;
-    for at in 0..first.saturating_add(rows) {
-        if at >= first {
-            slots.push(slot_at(nulls, place))?;
-        }
-        place = place.wrapping_add(1);
+    let mut slots = Vec::with_capacity(alloc, rows as usize)?;
+    for place in first..first.saturating_add(rows) {
+        slots.push(slot_at(nulls, place))?;
     }
     Ok(slots)
-}
-
-/// A name.
-pub fn text(alloc: Global, name: &str) -> PolarsResult<PlSmallStr> {
-    PlSmallStr::from_str(alloc, name)
 }
 
 /// A column of these slots in one chunk.
@@ -152,8 +132,9 @@ pub fn in_one_chunk<T: Word>(
     alloc: Global,
     name: &str,
     slots: &[Option<T>],
-) -> PolarsResult<Column<T>> {
-    Column::<T>::from_slots(alloc, text(alloc, name)?, slots)
+) -> PolarsResult<ChunkedArray<T>> {
+    let name = PlSmallStr::from_str(alloc, name)?;
+    ChunkedArray::<T>::from_iter_options(alloc, name, slots.iter().copied())
 }
 
 /// A column of these slots in chunks of one row.
@@ -161,20 +142,11 @@ pub fn in_row_chunks<T: Word>(
     alloc: Global,
     name: &str,
     slots: &[Option<T>],
-) -> PolarsResult<Column<T>> {
+) -> PolarsResult<ChunkedArray<T>> {
     let (first, others) = slots.split_at(slots.len().min(1));
     let mut column = in_one_chunk(alloc, name, first)?;
     for slot in others {
         column.append(&in_one_chunk(alloc, OTHER_NAME, &[*slot])?)?;
     }
     Ok(column)
-}
-
-/// How many rows each chunk of a column has.
-pub fn lengths_of<T: Word>(alloc: Global, column: &Column<T>) -> Result<Vec<usize>, AllocError> {
-    let mut lengths = Vec::with_capacity(alloc, column.n_chunks())?;
-    for index in 0..column.n_chunks() {
-        lengths.push(column.chunk_len(index).unwrap_or(0))?;
-    }
-    Ok(lengths)
 }

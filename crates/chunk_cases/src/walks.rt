@@ -19,34 +19,29 @@ pub fn check_walks(alloc: Global, subject: &Subject, tally: &mut Tally) -> Resul
 
 /// Whether the runs, one after another, have the column's slots.
 fn walk_has_slots(alloc: Global, subject: &Subject, run: usize, tally: &mut Tally) -> Result<bool> {
-    let column = &subject.column.words;
-    let mut slots = subject.slots();
+    let column = &subject.column;
+    let mut slots = subject.slots.as_slice();
+    let mut alike = true;
     let mut place = Place::start();
     let mut left = column.len();
     while left > 0 {
         let rows = left.min(run.max(1));
         let (chunk, next) = column.next_rows(alloc, place, rows)?;
         let (front, rest) = slots.split_at(rows.min(slots.len()));
-        if !run_has_slots(&chunk, front, tally) {
-            return Ok(false);
-        }
+        alike = alike && run_has_slots(&chunk, front, tally);
         slots = rest;
         place = next;
         left -= rows;
     }
-    Ok(slots.is_empty())
+    Ok(alike && slots.is_empty())
 }
 
 /// Whether a run of rows has exactly these slots.
 fn run_has_slots(chunk: &WordChunk<i64>, slots: &[Option<i64>], tally: &mut Tally) -> bool {
-    if chunk.len() != slots.len() {
-        return false;
-    }
+    let mut alike = chunk.len() == slots.len();
     for row in 0..chunk.len() {
         tally.add_read();
-        if chunk.get(row) != slots[row] {
-            return false;
-        }
+        alike = alike && slots.get(row).copied() == Some(chunk.get(row));
     }
-    true
+    alike
 }

@@ -11,13 +11,13 @@ const MICROS: TimeUnit = TimeUnit::Microseconds;
 /// The words as moments in microseconds, in the same memory.
 fn moments(alloc: Global, words: &Int64Chunked) -> Result<Series> {
     let words = words.try_clone(alloc)?;
-    Ok(Series::from_int64(words, DataType::Datetime(MICROS, None)))
+    Ok(Series::from_int64(alloc, words, DataType::Datetime(MICROS, None))?)
 }
 
 /// The same as lengths of time.
 fn lengths(alloc: Global, words: &Int64Chunked) -> Result<Series> {
     let words = words.try_clone(alloc)?;
-    Ok(Series::from_int64(words, DataType::Duration(MICROS)))
+    Ok(Series::from_int64(alloc, words, DataType::Duration(MICROS))?)
 }
 
 /// The moments with the lengths of time added.

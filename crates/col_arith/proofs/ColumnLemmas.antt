@@ -61,17 +61,24 @@ gives-typed (Ok words) dtype expected h = ap (seen_by (as_type dtype)) h
 gives-typed (Err errors.NoMemory) dtype expected h = tt
 gives-typed (Err refusal) dtype expected h = ap (seen_by (as_type dtype)) h
 
+-- what gives a column, up to want of memory, gives what the column does
+through : (given result : Result Chunked PolarsError) (expected : Result Column PolarsError)
+    → GivesBy column_of given expected → Gives result given → GivesBy column_of result expected
+through given (Ok column) expected h is = subst (λ (r : Result Chunked PolarsError). GivesBy column_of r expected) is h
+through given (Err errors.NoMemory) expected h is = tt
+through given (Err refusal) expected h is = subst (λ (r : Result Chunked PolarsError). GivesBy column_of r expected) is h
+
 -- two columns give what is read of the answer of their words
 pub joined-answer : (formula : Formula) (dtype d : DataType) (left right first second : Chunked) (words result : Result Chunked PolarsError)
     → left ≡ retyped left.column.dtype first → right ≡ retyped right.column.dtype second
     → GivesBy column_of words (paired_column (value_of formula) d first.column second.column)
-    → result ≡ seen_by (retyped dtype) words
+    → Gives result (seen_by (retyped dtype) words)
     → GivesBy column_of result (joined_by formula dtype left.column right.column)
 joined-answer formula dtype d left right first second words result e f given is =
-    subst (λ (r : Result Chunked PolarsError). GivesBy column_of r (joined_by formula dtype left.column right.column)) (sym is)
+    through (seen_by (retyped dtype) words) result (joined_by formula dtype left.column right.column)
     (subst (λ (r : Result Column PolarsError). GivesBy column_of (seen_by (retyped dtype) words) r)
     (sym (joined-words formula dtype d left right first second e f))
-    (gives-typed words dtype (paired_column (value_of formula) d first.column second.column) given))
+    (gives-typed words dtype (paired_column (value_of formula) d first.column second.column) given)) is
 
 -- ---- times of the day
 
@@ -171,15 +178,16 @@ gives-retyped (Err refusal) dtype expected h = ap (λ (r : Result Chunked Polars
 pub scalar-answer : (column words : Chunked) (dtype : DataType) (form : ScalarForm) (k : ℤ) (ticks : Ticks) (given result : Result Chunked PolarsError)
     → column.column.dtype ≡ dtype → FitsType dtype ticks → column ≡ retyped column.column.dtype words
     → Gives given (scalar_words (word_of ticks) (bounded_by ticks (form_of form k (word_of ticks))) k words)
-    → result ≡ seen_by (retyped dtype) given
+    → Gives result (seen_by (retyped dtype) given)
     → GivesBy column_of result (scalar_of column.column form k)
 scalar-answer column words dtype form k ticks given result typed fits e gives is =
     let own = subst (λ (d : DataType). FitsType d ticks) (sym typed) fits in
-    let read : result ≡ seen_by (retyped column.column.dtype) given = is ∙ ap (λ (d : DataType). seen_by (retyped d) given) (sym typed) in
-    subst (λ (r : Result Chunked PolarsError). GivesBy column_of r (scalar_of column.column form k)) (sym read)
+    let read : Gives result (seen_by (retyped column.column.dtype) given) =
+    subst (λ (d : DataType). Gives result (seen_by (retyped d) given)) (sym typed) is in
+    through (seen_by (retyped column.column.dtype) given) result (scalar_of column.column form k)
     (subst (λ (r : Result Column PolarsError). GivesBy column_of (seen_by (retyped column.column.dtype) given) r)
     (sym (scalar-same column words form k ticks own e))
-    (gives-retyped given column.column.dtype (scalar_words (word_of ticks) (bounded_by ticks (form_of form k (word_of ticks))) k words) gives))
+    (gives-retyped given column.column.dtype (scalar_words (word_of ticks) (bounded_by ticks (form_of form k (word_of ticks))) k words) gives)) read
 
 -- times that a formula gives lie in the day
 times-bounded : (formula : Formula) (slots : List (Option Value))

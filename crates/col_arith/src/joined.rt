@@ -39,7 +39,7 @@ pub(crate) fn ticks_joined<R: Operator<i64, i64, i64>>(
         (joined_by (R.formula units.0 units.1) dtype left.now.column right.now.column) }
 {
     let words = by_units::<i64, i64, i64, R>(alloc, units, left.int64(), right.int64());
-    read_ticks(words, dtype)
+    read_ticks(alloc, words, dtype)
 }
 
 /// Dates with lengths of time of a unit.
@@ -60,7 +60,7 @@ pub(crate) fn dates_with_lengths<R: Operator<i32, i64, i32>>(
         dates.int32(),
         lengths.int64(),
     );
-    read_dates(words)
+    read_dates(alloc, words)
 }
 
 /// Lengths of time of a unit, cut to whole days, with dates.
@@ -82,7 +82,7 @@ pub(crate) fn lengths_with_dates(
         lengths.int64(),
         dates.int32(),
     );
-    read_dates(words)
+    read_dates(alloc, words)
 }
 
 /// What lies between the beginnings of dates and moments of a unit.
@@ -104,7 +104,7 @@ pub(crate) fn dates_and_moments(
         dates.int32(),
         moments.int64(),
     );
-    read_ticks(words, DataType::Duration(unit))
+    read_ticks(alloc, words, DataType::Duration(unit))
 }
 
 /// What lies between moments of a unit and the beginnings of dates.
@@ -126,7 +126,7 @@ pub(crate) fn moments_and_dates(
         moments.int64(),
         dates.int32(),
     );
-    read_ticks(words, DataType::Duration(unit))
+    read_ticks(alloc, words, DataType::Duration(unit))
 }
 
 /// The milliseconds between dates.
@@ -142,7 +142,7 @@ pub(crate) fn dates_apart(alloc: Global, left: &Series, right: &Series) -> Polar
         left.int32(),
         right.int32(),
     );
-    read_ticks(words, DataType::Duration(TimeUnit::Milliseconds))
+    read_ticks(alloc, words, DataType::Duration(TimeUnit::Milliseconds))
 }
 
 /// The nanoseconds between times of the day.
@@ -155,5 +155,5 @@ pub(crate) fn times_apart(alloc: Global, left: &Series, right: &Series) -> Polar
     left.known();
     right.known();
     let words = between_times(alloc, left.int64(), right.int64());
-    read_ticks(words, DataType::Duration(TimeUnit::Nanoseconds))
+    read_ticks(alloc, words, DataType::Duration(TimeUnit::Nanoseconds))
 }

@@ -61,7 +61,7 @@ fn dates_with_scalar(
     requires date { column.now.column.dtype ≡ Date }
     ensures column { GivesBy column_of result (scalar_of column.now.column form k) }
 {
-    read_dates(with_scalar(alloc, column.int32(), form, k))
+    read_dates(alloc, with_scalar(alloc, column.int32(), form, k))
 }
 
 /// The same for a column of times of the day.
@@ -75,7 +75,7 @@ fn times_with_scalar(
     ensures column { GivesBy column_of result (scalar_of column.now.column form k) }
 {
     let words = times_of_scalar(alloc, column.int64(), form, k);
-    read_ticks(words, DataType::Time)
+    read_ticks(alloc, words, DataType::Time)
 }
 
 /// The same for a column of ticks that have no bound but their word.
@@ -91,7 +91,7 @@ fn ticks_with_scalar(
     ensures column { GivesBy column_of result (scalar_of column.now.column form k) }
 {
     let words = with_scalar(alloc, column.int64(), form, k);
-    read_ticks(words, column.dtype().clone_flat())
+    read_ticks(alloc, words, column.dtype().clone_flat())
 }
 
 /// Words with an integer of their width under the form. Refused where it has no such width

@@ -1,14 +1,13 @@
 -- The answers of a cast, over words.
-use Rattle.std.proofs.Common.{◌≡◌, ◌<◌, ◌≤◌, ◌^◌, ◌+◌, ℕ, zero, suc, Bool, true, false, List, [], ◌∷◌, map, length, replicate, Option, Some, None, Ok, Err, Result, refl, sym, ap, is_some, is_none, if◌then◌else◌, arith, IfSome}
+use Rattle.std.proofs.Common.{◌≡◌, ◌<◌, ◌≤◌, ◌^◌, ◌+◌, ℕ, zero, suc, Bool, true, false, List, [], ◌∷◌, map, length, replicate, Option, Some, None, Ok, Err, Result, refl, sym, ap, subst, is_some, is_none, if◌then◌else◌, arith, IfSome}
 use Rattle.std.specs.List.{list_all, list_any}
 use Rattle.std.specs.Prelude.{fold, cond, nat_lt}
 use Rattle.std.proofs.lemmas.Bool.Decides.{nat_tests}
-use Rattle.std.proofs.lemmas.Bool.{false≢true}
-use Rattle.col_types.specs.DataType.{kind_of, is_bad_target, same_type}
-use Rattle.col_types.specs.declared.data_type.DataType.{DataType, Date, Datetime, Int64, Time}
-use Rattle.col_types.specs.declared.time_unit.TimeUnit.{TimeUnit}
+use Rattle.col_types.specs.DataType.{kind_of, is_bad_target}
+use Rattle.col_types.specs.declared.data_type.DataType.{DataType, Time}
 use Rattle.col_types.specs.PolarsError.{Gives, GivesBy}
 use Rattle.col_types.specs.declared.cast_options.CastOptions.{CastOptions}
+use Rattle.col_types.specs.declared.cast_options.CastOptions.TheVariants.{Strict, NonStrict, Overflowing}
 use Rattle.col_types.specs.declared.is_sorted.IsSorted.{IsSorted}
 use Rattle.col_types.specs.declared.is_sorted.IsSorted.TheVariants.{Not}
 use Rattle.col_types.specs.declared.error.PolarsError.{PolarsError}
@@ -17,27 +16,28 @@ use Rattle.col_model.specs.Chunked.{Chunked, column_of, in_one_chunk}
 use Rattle.col_model.specs.ChunkCalls.{null_column, null_count}
 use Rattle.col_model.specs.Value.{Value}
 use Rattle.col_model.specs.Formula.{Formula, X, slot_by, value_of}
-use Rattle.col_model.specs.Column.{Column, IsValidColumn, is_slot_of}
-use Rattle.col_model.specs.CastTable.{CastRule, cast_rule, day_of, rising, time_of}
-use Rattle.col_model.specs.UnitChange.{datetime_in_unit, day_in_unit}
+use Rattle.col_model.specs.Column.{Column, IsValidColumn, is_built_type, is_slot_of}
+use Rattle.col_model.specs.CastTable.{CastRule, cast_rule}
 use Rattle.col_model.specs.ColumnCalls.{cast_slot, first_lost, strict_refusal, unless_refused, is_built_target, cast_of, pair_refusal, kept_flag, keeps_order}
 use Rattle.col_rule.specs.Columns.{mapped_chunks}
-use Rattle.col_logical.specs.Logical.{is_time, retyped, lie_in_the_day}
+use Rattle.col_logical.specs.Logical.{retyped, lie_in_the_day}
 use Rattle.col_series.specs.Casts.{cast_by, cast_nulls, cast_under}
 use Rattle.col_series.proofs.TypeLemmas.{built_target, built_settled}
-use Rattle.col_series.proofs.RuleLemmas.{time-fit, times-fit}
 use Rattle.col_series.proofs.ColumnLemmas.{gives_column, gives_chunked}
+use Rattle.col_cast.specs.Casts.{Ruled, rule_in, ruled}
 use Rattle.col_series.proofs.LawLemmas.{kept_slots, none_lost, not_refused}
+use Rattle.col_series.proofs.TableLemmas.{chosen-slots}
 
 -- ---- by a rule
 
 -- words under a rule, read as the target, are what the cast gives
-pub cast-given : (options : CastOptions) (formula : Formula) (target word : DataType) (column words changed : Chunked) (lost : Option ℕ)
-    → column ≡ retyped column.column.dtype words → changed ≡ mapped_chunks (λ x. value_of formula x x) word words
-    → lost ≡ first_lost (slot_by formula) 0 words.column.slots
-    → unless_refused (strict_refusal options lost) (retyped target changed).column ≡ cast_by options formula target column.column
-cast-given options formula target word column words changed lost e f g =
-    rw (f, g) (sym (ap (λ (c : Column). cast_by options formula target c) (ap column_of e)))
+pub cast-given : (options : CastOptions) (formula kept : Formula) (target word : DataType) (words changed : Chunked) (lost : Option ℕ)
+    → (options ≡ Strict → kept ≡ formula) → changed ≡ mapped_chunks (λ x. value_of formula x x) word words
+    → lost ≡ first_lost (slot_by kept) 0 words.column.slots
+    → unless_refused (strict_refusal options lost) (retyped target changed).column ≡ cast_by options formula target words.column
+cast-given Strict formula kept target word words changed lost same f g = rw (f, g) (rw (same refl) refl)
+cast-given NonStrict formula kept target word words changed lost same f g = rw f refl
+cast-given Overflowing formula kept target word words changed lost same f g = rw f refl
 
 -- the lost row of a column that isn't too long
 this-or-later : (row last : ℕ) (none : Bool) (lost : Option ℕ) → row < last → IfSome lost (λ r. r < last) → IfSome (if none then Some row else lost) (λ r. r < last)
@@ -50,11 +50,8 @@ lost-inside f row last (None ∷ slots) fits = lost-inside f (row + 1) last slot
 lost-inside f row last (Some value ∷ slots) fits =
     this-or-later row last (is_none (f (Some value))) (first_lost f (row + 1) slots) (omega arith) (lost-inside f (row + 1) last slots (omega arith))
 
-pub lost-short : (f : Option Value → Option Value) (column words : Chunked) (lost : Option ℕ) → column ≡ retyped column.column.dtype words → length column.column.slots < 2 ^ 32
-    → lost ≡ first_lost f 0 words.column.slots → IfSome lost (λ row. row < 2 ^ 32)
-lost-short f column words lost e short is =
-    let same : length column.column.slots ≡ length words.column.slots = ap (λ (c : Chunked). length c.column.slots) e in
-    rw is (lost-inside f 0 (2 ^ 32) words.column.slots (omega arith))
+pub lost-few : (f : Option Value → Option Value) (slots : List (Option Value)) (lost : Option ℕ) → length slots < 2 ^ 32 → lost ≡ first_lost f 0 slots → IfSome lost (λ row. row < 2 ^ 32)
+lost-few f slots lost short is = rw is (lost-inside f 0 (2 ^ 32) slots (omega arith))
 
 -- a rule that keeps each integer keeps the slots of a valid column
 pub kept-cast : (options : CastOptions) (target : DataType) (column : Column) → IsValidColumn column → column.flag ≡ Not
@@ -119,7 +116,7 @@ nulls-of result name dtype rows short gave = gives_column result _ (rw (room row
 abbrev pub given : Chunked → Result Chunked PolarsError
 given chunked = Ok chunked
 
-given-same : (x y : Chunked) → given x ≡ given y → x ≡ y
+pub given-same : (x y : Chunked) → given x ≡ given y → x ≡ y
 given-same x y e = cc
 
 pub null-words : (name : List ℕ) (dtype : DataType) (rows : ℕ) (words : Chunked) → null_column name dtype rows ≡ given words → words.column.slots ≡ replicate rows None
@@ -129,11 +126,6 @@ null-words name dtype rows words = go (nat_lt rows (2 ^ 32))
         → words.column.slots ≡ replicate rows None
     go true e = ap (λ (c : Chunked). c.column.slots) (sym (given-same _ words e))
     go false e = cc
-
--- the times of moments lie in the day
-pub times-day : (unit : TimeUnit) (words changed : Chunked) → given (mapped_chunks (λ x. value_of (time_of unit) x x) Int64 words) ≡ given changed → lie_in_the_day Time changed.column.slots ≡ true
-times-day unit words changed e =
-    rw (← given-same (mapped_chunks (λ x. value_of (time_of unit) x x) Int64 words) changed e) (times-fit (λ x. value_of (time_of unit) x x) (time-fit unit) words.column.slots)
 
 -- ---- a cast as a whole
 
@@ -168,28 +160,12 @@ cast-is column target options built good unmarked =
 
 -- ---- by the row of the table
 
-pub kept-words : (result : Result Chunked PolarsError) (column : Chunked) (own target : DataType) (options : CastOptions) → own ≡ column.column.dtype
-    → cast_rule own target options ≡ rising X → IsValidColumn column.column → column.column.flag ≡ Not → Gives result (Ok (retyped target column))
-    → GivesBy column_of result (cast_under options (cast_rule column.column.dtype target options) target column.column)
-kept-words result column own target options e rule valid unmarked gave =
-    rw (← e) (rw rule (rw (kept-cast options target column.column valid unmarked) (gives_chunked result (retyped target column) gave)))
-
-pub cast-date : (column : Column) (own target : DataType) (options : CastOptions) (unit : TimeUnit) (name : Option (List ℕ)) → own ≡ column.dtype → own ≡ Date → target ≡ Datetime unit name
-    → cast_under options (cast_rule column.dtype target options) target column ≡ cast_by options (day_in_unit unit X) target column
-cast-date column own target options unit name e f g = rw (← e) (rw (f, g) refl)
-
-pub cast-to_date : (column : Column) (own target : DataType) (options : CastOptions) (unit : TimeUnit) (name : Option (List ℕ)) → own ≡ column.dtype → own ≡ Datetime unit name → target ≡ Date
-    → cast_under options (cast_rule column.dtype target options) target column ≡ cast_by options (day_of options unit) target column
-cast-to_date column own target options unit name e f g = rw (← e) (rw (f, g) refl)
-
-pub cast-to_time : (column : Column) (own target : DataType) (options : CastOptions) (unit : TimeUnit) (name : Option (List ℕ)) → own ≡ column.dtype → own ≡ Datetime unit name → target ≡ Time
-    → cast_under options (cast_rule column.dtype target options) target column ≡ cast_by options (time_of unit) target column
-cast-to_time column own target options unit name e f g = rw (← e) (rw (f, g) refl)
-
-pub cast-moments : (column : Column) (own target : DataType) (options : CastOptions) (old new : TimeUnit) (name other : Option (List ℕ)) → own ≡ column.dtype → own ≡ Datetime old name
-    → target ≡ Datetime new other → same_type column.dtype target ≡ false
-    → cast_under options (cast_rule column.dtype target options) target column ≡ cast_by options (datetime_in_unit old new X) target column
-cast-moments column own target options old new name other e f g apart = rw apart (rw (← e) (rw (f, g) refl))
+-- a rule that keeps each integer leaves the slots
+pub kept-words : (result : Result Chunked PolarsError) (column : Chunked) (target : DataType) (options : CastOptions) (formula : Formula)
+    → formula ≡ X → IsValidColumn column.column → column.column.flag ≡ Not → Gives result (Ok (retyped target column))
+    → GivesBy column_of result (cast_by options formula target column.column)
+kept-words result column target options formula plain valid unmarked gave =
+    rw plain (rw (kept-cast options target column.column valid unmarked) (gives_chunked result (retyped target column) gave))
 
 -- ---- types
 
@@ -198,16 +174,20 @@ pub in-day : (dtype : DataType) (slots : List (Option Value)) → list_all (is_s
 in-day Time slots h = h
 in-day dtype slots h = refl
 
--- also where the types are equal
-pub same-day : (from target : DataType) (slots : List (Option Value)) → same_type from target ≡ true → list_all (is_slot_of from) slots ≡ true → lie_in_the_day target slots ≡ true
-same-day Time Time slots e h = h
-same-day from Time slots e h = absurd (false≢true e)
-same-day from target slots e h = refl
+-- so they do where a rule of the table makes them
+pub ruled-day : (options : CastOptions) (from target : DataType) (rule : Ruled) (word : DataType) (words changed : Chunked) → is_built_type from ≡ true → is_built_type target ≡ true
+    → ruled from target options ≡ Some rule → list_all (is_slot_of from) words.column.slots ≡ true
+    → given (mapped_chunks (λ x. value_of (rule_in rule).formula x x) word words) ≡ given changed → lie_in_the_day target changed.column.slots ≡ true
+ruled-day options from target rule word words changed h g e fit gave =
+    in-day target changed.column.slots (subst (λ (c : Chunked). list_all (is_slot_of target) c.column.slots ≡ true)
+    (given-same (mapped_chunks (λ x. value_of (rule_in rule).formula x x) word words) changed gave) (chosen-slots options from target rule words.column.slots h g e fit))
 
--- a type that isn't that of times asks for no day
-pub no-day : (dtype : DataType) (slots : List (Option Value)) → is_time dtype ≡ false → lie_in_the_day dtype slots ≡ true
-no-day Time slots h = cc
-no-day dtype slots h = refl
+-- the words of a column have the slots of its type
+pub moved-values : (column words : Chunked) (from : DataType) → column ≡ retyped column.column.dtype words → column.column.dtype ≡ from
+    → list_all (is_slot_of column.column.dtype) column.column.slots ≡ true → list_all (is_slot_of from) words.column.slots ≡ true
+moved-values column words from e typed h =
+    subst (λ (d : DataType). list_all (is_slot_of d) words.column.slots ≡ true) typed
+    (subst (λ (c : Chunked). list_all (is_slot_of column.column.dtype) c.column.slots ≡ true) e h)
 
 -- nulls lie in each day
 pub nulls-day : (dtype : DataType) (rows : ℕ) → lie_in_the_day dtype (replicate rows None) ≡ true

@@ -1,6 +1,6 @@
 pub mod TypeLemmas
 pub mod ColumnLemmas
-pub mod RuleLemmas
+pub mod TableLemmas
 pub mod CastLemmas
 pub mod SlotLemmas
 pub mod LawLemmas

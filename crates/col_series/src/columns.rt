@@ -13,6 +13,7 @@ pub enum Columns {
 }
 
 /// The words of a column, as wide as its type keeps them.
+#[derive(Drop)]
 pub enum Physical<'a> {
     Int32(&'a Int32Chunked),
     Int64(&'a Int64Chunked),

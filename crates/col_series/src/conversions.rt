@@ -1,7 +1,7 @@
 //! Columns of one type as columns of any, and back.
 
-ghost use Rattle.std.specs.Prelude.{◌≡◌, true};
-ghost use Rattle.col_types.specs.PolarsError.{seen_by};
+ghost use Rattle.std.specs.Prelude.{◌≡◌, true, Ok};
+ghost use Rattle.col_types.specs.PolarsError.{Gives, seen_by};
 ghost use Rattle.col_model.specs.Chunked.{Chunked};
 ghost use Rattle.col_logical.specs.Logical.{is_date, is_datetime, is_duration, is_time};
 ghost use Rattle.col_series.specs.Columns.{of_kind};
@@ -10,54 +10,47 @@ use crate::columns::Columns;
 use crate::series::Series;
 use crate::{DataType, PolarsError, PolarsResult};
 use col_logical::{DateChunked, DatetimeChunked, DurationChunked, TimeChunked};
+use std::alloc::Global;
 
-/// What becomes a column of any type. It takes no memory.
+/// What becomes a column of any type.
 pub trait IntoSeries {
     /// The column.
     ghost column: { Self → Chunked };
 
-    /// The column.
-    fn into_series(self) -> Series
-        ensures column { result ≡ column self };
+    /// The column. It takes memory for its place alone.
+    fn into_series(self, alloc: Global) -> PolarsResult<Series>
+        ensures column { Gives result (Ok (column self)) };
 }
 
 impl IntoSeries for DateChunked {
     ghost column = { λ dates. dates };
 
-    fn into_series(self) -> Series {
-        Series {
-            columns: Columns::Date(self),
-        }
+    fn into_series(self, alloc: Global) -> PolarsResult<Series> {
+        Series::new(alloc, Columns::Date(self))
     }
 }
 
 impl IntoSeries for DatetimeChunked {
     ghost column = { λ moments. moments };
 
-    fn into_series(self) -> Series {
-        Series {
-            columns: Columns::Datetime(self),
-        }
+    fn into_series(self, alloc: Global) -> PolarsResult<Series> {
+        Series::new(alloc, Columns::Datetime(self))
     }
 }
 
 impl IntoSeries for DurationChunked {
     ghost column = { λ lengths. lengths };
 
-    fn into_series(self) -> Series {
-        Series {
-            columns: Columns::Duration(self),
-        }
+    fn into_series(self, alloc: Global) -> PolarsResult<Series> {
+        Series::new(alloc, Columns::Duration(self))
     }
 }
 
 impl IntoSeries for TimeChunked {
     ghost column = { λ times. times };
 
-    fn into_series(self) -> Series {
-        Series {
-            columns: Columns::Time(self),
-        }
+    fn into_series(self, alloc: Global) -> PolarsResult<Series> {
+        Series::new(alloc, Columns::Time(self))
     }
 }
 
@@ -106,7 +99,7 @@ impl Series {
         requires kind { is_date self.now.column.dtype ≡ true }
         ensures column { result.now ≡ self.now }
     {
-        match &self.columns {
+        match self.columns() {
             Columns::Date(dates) => dates,
             Columns::Datetime(moments) => {
                 moments.known();
@@ -127,7 +120,7 @@ impl Series {
         requires kind { is_datetime self.now.column.dtype ≡ true }
         ensures column { result.now ≡ self.now }
     {
-        match &self.columns {
+        match self.columns() {
             Columns::Date(dates) => {
                 dates.known();
                 unreachable!()
@@ -148,7 +141,7 @@ impl Series {
         requires kind { is_duration self.now.column.dtype ≡ true }
         ensures column { result.now ≡ self.now }
     {
-        match &self.columns {
+        match self.columns() {
             Columns::Date(dates) => {
                 dates.known();
                 unreachable!()
@@ -169,7 +162,7 @@ impl Series {
         requires kind { is_time self.now.column.dtype ≡ true }
         ensures column { result.now ≡ self.now }
     {
-        match &self.columns {
+        match self.columns() {
             Columns::Date(dates) => {
                 dates.known();
                 unreachable!()

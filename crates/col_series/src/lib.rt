@@ -9,8 +9,6 @@ mod conversions;
 mod intervals;
 mod laws;
 mod reading;
-mod row_rules;
-mod rows;
 mod series;
 mod slots;
 mod tick_rule;

@@ -22,11 +22,12 @@ use col_chunk::{Int32Chunked, Int64Chunked};
 use col_logical::Logical;
 use std::alloc::Global;
 use std::marker::Model;
+use std::rc::Rc;
 
-/// A column. Its clones and some casts share its buffers.
+/// A column. Its clones share it, and some casts share its buffers.
 #[derive(Drop)]
 pub struct Series {
-    pub(crate) columns: Columns,
+    columns: Rc<Columns>,
 }
 
 impl Model for Series {
@@ -39,7 +40,7 @@ impl Model for Series {
 
     ghost coded = { Prim.hlevel (codes, data_type.the_row.coded) };
 
-    ghost view = { λ s. shown s.columns };
+    ghost view = { λ s. shown s.columns.value };
 }
 
 impl Series {
@@ -66,10 +67,10 @@ impl Series {
         }
         if is_in_32_bits(dtype) {
             let words = words_of(alloc, name, slots)?;
-            return Ok(Series::from_int32(words, dtype.clone_flat()));
+            return Series::from_int32(alloc, words, dtype.clone_flat());
         }
         let words = words_of(alloc, name, slots)?;
-        Ok(Series::from_int64(words, dtype.clone_flat()))
+        Series::from_int64(alloc, words, dtype.clone_flat())
     }
 
     /// A column of so many nulls, in one chunk. Refused at 2^32 rows or more (`TooLong`).
@@ -84,36 +85,55 @@ impl Series {
     {
         if is_in_32_bits(dtype) {
             return match Int32Chunked::full_null(alloc, name, length) {
-                Ok(words) => Ok(Series::from_int32(words, dtype.clone_flat())),
+                Ok(words) => Series::from_int32(alloc, words, dtype.clone_flat()),
                 Err(refusal) => Err(refusal),
             };
         }
         match Int64Chunked::full_null(alloc, name, length) {
-            Ok(words) => Ok(Series::from_int64(words, dtype.clone_flat())),
+            Ok(words) => Series::from_int64(alloc, words, dtype.clone_flat()),
             Err(refusal) => Err(refusal),
         }
     }
 
+    /// The column of one type as a column of any.
+    pub(crate) fn new(alloc: Global, columns: Columns) -> PolarsResult<Series>
+        ensures column { Gives result (Ok (shown columns)) }
+    {
+        Ok(Series {
+            columns: Rc::new(alloc, columns)?,
+        })
+    }
+
+    /// The column of one type.
+    pub(crate) fn columns(&self) -> &Columns
+        ensures column { shown result.now ≡ self.now }
+    {
+        &self.columns
+    }
+
     /// The words of a column of 32 bits, read as a type that is kept in such words.
-    pub fn from_int32(words: Int32Chunked, dtype: DataType) -> Series
+    pub fn from_int32(alloc: Global, words: Int32Chunked, dtype: DataType) -> PolarsResult<Series>
         requires built_type { is_built_type dtype ≡ true }
         requires stored { physical_word dtype ≡ Some (Signed w32) }
-        ensures column { result ≡ retyped dtype words }
+        ensures column { Gives result (Ok (retyped dtype words)) }
     {
         match dtype {
-            DataType::Date => Series {
-                columns: Columns::Date(Logical::new_logical(words, DataType::Date)),
-            },
+            DataType::Date => {
+                Series::new(
+                    alloc,
+                    Columns::Date(Logical::new_logical(words, DataType::Date)),
+                )
+            }
             _ => unreachable!(),
         }
     }
 
     /// The words of a column of 64 bits, read as a type that is kept in such words.
-    pub fn from_int64(words: Int64Chunked, dtype: DataType) -> Series
+    pub fn from_int64(alloc: Global, words: Int64Chunked, dtype: DataType) -> PolarsResult<Series>
         requires built_type { is_built_type dtype ≡ true }
         requires stored { physical_word dtype ≡ Some (Signed w64) }
         requires day { lie_in_the_day dtype words.column.slots ≡ true }
-        ensures column { result ≡ retyped dtype words }
+        ensures column { Gives result (Ok (retyped dtype words)) }
     {
         let columns = match &dtype {
             DataType::Datetime(_, _) => Columns::Datetime(Logical::new_logical(words, dtype)),
@@ -121,14 +141,14 @@ impl Series {
             DataType::Time => Columns::Time(Logical::new_logical(words, dtype)),
             _ => unreachable!(),
         };
-        Series { columns }
+        Series::new(alloc, columns)
     }
 
     /// The name.
     pub fn name(&self) -> &PlSmallStr
         ensures name { result.now ≡ self.now.column.name }
     {
-        match &self.columns {
+        match &*self.columns {
             Columns::Date(dates) => dates.name(),
             Columns::Datetime(moments) => moments.name(),
             Columns::Duration(lengths) => lengths.name(),
@@ -140,7 +160,7 @@ impl Series {
     pub fn dtype(&self) -> &DataType
         ensures dtype { result.now ≡ self.now.column.dtype }
     {
-        match &self.columns {
+        match &*self.columns {
             Columns::Date(dates) => dates.dtype(),
             Columns::Datetime(moments) => moments.dtype(),
             Columns::Duration(lengths) => lengths.dtype(),
@@ -152,7 +172,7 @@ impl Series {
     pub fn len(&self) -> usize
         ensures length { result ≡ length self.now.column.slots }
     {
-        match &self.columns {
+        match &*self.columns {
             Columns::Date(dates) => dates.len(),
             Columns::Datetime(moments) => moments.len(),
             Columns::Duration(lengths) => lengths.len(),
@@ -164,7 +184,7 @@ impl Series {
     pub fn null_count(&self) -> usize
         ensures nulls { result ≡ null_count self.now.column.slots }
     {
-        match &self.columns {
+        match &*self.columns {
             Columns::Date(dates) => dates.null_count(),
             Columns::Datetime(moments) => moments.null_count(),
             Columns::Duration(lengths) => lengths.null_count(),
@@ -176,7 +196,7 @@ impl Series {
     pub fn n_chunks(&self) -> usize
         ensures chunks { result ≡ length self.now.chunk_lengths }
     {
-        match &self.columns {
+        match &*self.columns {
             Columns::Date(dates) => dates.n_chunks(),
             Columns::Datetime(moments) => moments.n_chunks(),
             Columns::Duration(lengths) => lengths.n_chunks(),
@@ -190,7 +210,7 @@ impl Series {
         ensures valid { IsValidColumn self.now.column }
         ensures unmarked { self.now.column.flag ≡ Not }
     {
-        match &self.columns {
+        match &*self.columns {
             Columns::Date(dates) => dates.known(),
             Columns::Datetime(moments) => moments.known(),
             Columns::Duration(lengths) => lengths.known(),
@@ -203,7 +223,7 @@ impl Series {
         ensures column { self.now ≡ retyped self.now.column.dtype (words_shown result) }
         ensures stored { physical_word self.now.column.dtype ≡ Some (word_of result) }
     {
-        match &self.columns {
+        match &*self.columns {
             Columns::Date(dates) => {
                 dates.known();
                 Physical::Int32(dates.physical())
@@ -245,17 +265,14 @@ impl Series {
         }
     }
 
-    /// An equal column, over the same buffers.
+    /// An equal column, which shares this one: it takes no time for the rows.
     pub fn try_clone(&self, alloc: Global) -> PolarsResult<Series>
         ensures column { Gives result (Ok self.now) }
     {
-        let columns = match &self.columns {
-            Columns::Date(dates) => Columns::Date(dates.try_clone(alloc)?),
-            Columns::Datetime(moments) => Columns::Datetime(moments.try_clone(alloc)?),
-            Columns::Duration(lengths) => Columns::Duration(lengths.try_clone(alloc)?),
-            Columns::Time(times) => Columns::Time(times.try_clone(alloc)?),
-        };
-        Ok(Series { columns })
+        let _ = alloc;
+        Ok(Series {
+            columns: self.columns.clone()?,
+        })
     }
 
     /// The column in another unit: moments round down and lengths of time towards zero in a coarser
@@ -264,17 +281,13 @@ impl Series {
     pub fn cast_time_unit(&self, alloc: Global, unit: TimeUnit) -> PolarsResult<Series>
         ensures column { GivesBy column_of result (in_unit_of self.now.column unit) }
     {
-        match &self.columns {
+        match &*self.columns {
             Columns::Datetime(moments) => match moments.cast_time_unit(alloc, unit) {
-                Ok(moments) => Ok(Series {
-                    columns: Columns::Datetime(moments),
-                }),
+                Ok(moments) => Series::new(alloc, Columns::Datetime(moments)),
                 Err(refusal) => Err(refusal),
             },
             Columns::Duration(lengths) => match lengths.cast_time_unit(alloc, unit) {
-                Ok(lengths) => Ok(Series {
-                    columns: Columns::Duration(lengths),
-                }),
+                Ok(lengths) => Series::new(alloc, Columns::Duration(lengths)),
                 Err(refusal) => Err(refusal),
             },
             Columns::Date(dates) => {
@@ -297,11 +310,11 @@ impl Series {
         let dtype = self.dtype().clone_flat();
         match self.physical() {
             Physical::Int32(words) => match words.shift(alloc, periods) {
-                Ok(words) => Ok(Series::from_int32(words, dtype)),
+                Ok(words) => Series::from_int32(alloc, words, dtype),
                 Err(refusal) => Err(refusal),
             },
             Physical::Int64(words) => match words.shift(alloc, periods) {
-                Ok(words) => Ok(Series::from_int64(words, dtype)),
+                Ok(words) => Series::from_int64(alloc, words, dtype),
                 Err(refusal) => Err(refusal),
             },
         }
@@ -309,7 +322,7 @@ impl Series {
 }
 
 /// Whether a column of the type is kept in words of 32 bits, and not in those of 64.
-fn is_in_32_bits(dtype: &DataType) -> bool
+pub(crate) fn is_in_32_bits(dtype: &DataType) -> bool
     requires built_type { is_built_type dtype.now ≡ true }
     ensures narrow { result ≡ true → physical_word dtype.now ≡ Some (Signed w32) }
     ensures wide { result ≡ false → physical_word dtype.now ≡ Some (Signed w64) }

@@ -1,8 +1,11 @@
 // The line of a column.
 ghost use Rattle.std.specs.Prelude.{◌≡◌, true, IfOk, Some, length, option_and_then, sum};
-ghost use Rattle.col_model.specs.Column.{is_built_type};
+ghost use Rattle.std.specs.Int.{w32, w64};
+ghost use Rattle.col_model.specs.Arithmetic.{Signed};
+ghost use Rattle.col_model.specs.Column.{is_built_type, physical_word};
 ghost use Rattle.col_model.specs.Words.{word_dtype};
 ghost use Rattle.col_chunk.specs.Chunks.{joined, lengths_of};
+ghost use Rattle.col_logical.specs.Logical.{lie_in_the_day, retyped};
 ghost use Rattle.col_token.specs.Tokens.{words_in};
 ghost use Rattle.col_text.specs.Slots.{
   column_line,
@@ -18,7 +21,9 @@ use crate::dtypes::column_dtype;
 use crate::line_error::LineError;
 use crate::slots::{Days, ReadSlots, Ticks, TimesOfDay, Values, read_slots};
 use crate::words::{are_graphic, shared_text};
-use col_chunk::{ArrayOf, Chunk, ChunkedArray, ROW_LIMIT, Word, WordChunk};
+use col_chunk::{
+    ArrayOf, Chunk, ChunkedArray, Int32Chunked, Int64Chunked, ROW_LIMIT, Word, WordChunk,
+};
 use col_series::Series;
 use col_token::first_token;
 use col_types::{DataType, ZoneNames};
@@ -91,6 +96,31 @@ fn words_with<W: Word, V: Values<W>>(
     }
 }
 
+/// Words of 32 bits as a column of a type that is kept in such words.
+fn read_days(alloc: Global, words: Int32Chunked, dtype: DataType) -> Result<Series, LineError>
+    requires built { is_built_type dtype ≡ true }
+    requires stored { physical_word dtype ≡ Some (Signed w32) }
+    ensures column { Reads result (Some (retyped dtype words)) }
+{
+    match Series::from_int32(alloc, words, dtype) {
+        Ok(column) => Ok(column),
+        Err(_) => Err(LineError::NoMemory),
+    }
+}
+
+/// Words of 64 bits as a column of a type that is kept in such words.
+fn read_ticks(alloc: Global, words: Int64Chunked, dtype: DataType) -> Result<Series, LineError>
+    requires built { is_built_type dtype ≡ true }
+    requires stored { physical_word dtype ≡ Some (Signed w64) }
+    requires day { lie_in_the_day dtype words.column.slots ≡ true }
+    ensures column { Reads result (Some (retyped dtype words)) }
+{
+    match Series::from_int64(alloc, words, dtype) {
+        Ok(column) => Ok(column),
+        Err(_) => Err(LineError::NoMemory),
+    }
+}
+
 /// The column of a name, a type and the slots that are left.
 fn column_with(
     alloc: Global,
@@ -104,17 +134,17 @@ fn column_with(
 {
     match &dtype {
         DataType::Date => match words_with::<i32, Days>(alloc, name, line) {
-            Ok(words) => Ok(Series::from_int32(words, dtype)),
+            Ok(words) => read_days(alloc, words, dtype),
             Err(error) => Err(error),
         },
         DataType::Time => match words_with::<i64, TimesOfDay>(alloc, name, line) {
-            Ok(words) => Ok(Series::from_int64(words, dtype)),
+            Ok(words) => read_ticks(alloc, words, dtype),
             Err(error) => Err(error),
         },
         DataType::Datetime(_, _) | DataType::Duration(_) => match words_with::<i64, Ticks>(
             alloc, name, line,
         ) {
-            Ok(words) => Ok(Series::from_int64(words, dtype)),
+            Ok(words) => read_ticks(alloc, words, dtype),
             Err(error) => Err(error),
         },
         _ => unreachable!(),

@@ -3,3 +3,7 @@
 
 #[cfg(test)]
 mod boolean;
+#[cfg(test)]
+mod casts;
+#[cfg(test)]
+mod filter;

@@ -45,7 +45,8 @@ fn dates_are_words_of_32_bits(rt: HostRuntime) {
     let alloc = rt.alloc();
     let column = words(&rt, alloc, [7i32, -1].as_slice())
         .into_date()
-        .into_series();
+        .into_series(alloc)
+        .expect(&rt, "dates");
     has_chunks(&rt, &column, 3, 2);
     assert!(rt; column.date().is_ok() && column.time().is_err());
     assert_eq!(rt; bits(&column), 32);
@@ -55,7 +56,7 @@ fn dates_are_words_of_32_bits(rt: HostRuntime) {
 fn moments_are_words_of_64_bits(rt: HostRuntime) {
     let alloc = rt.alloc();
     let moments = words(&rt, alloc, [7i64].as_slice()).into_datetime(MILLIS, None);
-    let column = moments.into_series();
+    let column = moments.into_series(alloc).expect(&rt, "moments");
     assert!(rt; column.datetime().is_ok() && column.duration().is_err());
     assert_eq!(rt; bits(&column), 64);
     assert_eq!(rt; column.null_count(), 0);
@@ -66,11 +67,12 @@ fn lengths_and_times_are_told_apart(rt: HostRuntime) {
     let alloc = rt.alloc();
     let lengths = words(&rt, alloc, [7i64].as_slice())
         .into_duration(MILLIS)
-        .into_series();
+        .into_series(alloc)
+        .expect(&rt, "lengths");
     assert!(rt; lengths.duration().is_ok() && lengths.datetime().is_err());
     let times = words(&rt, alloc, [7i64].as_slice())
         .into_time(alloc)
         .expect(&rt, "times");
-    let times = times.into_series();
+    let times = times.into_series(alloc).expect(&rt, "times");
     assert!(rt; times.time().is_ok() && times.date().is_err());
 }

@@ -1,0 +1,4 @@
+mod DayLaws
+mod RowLaws
+mod SlotLaws
+mod WordRuleLaws

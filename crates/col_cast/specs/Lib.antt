@@ -1,0 +1,4 @@
+pub mod WordCasts
+pub mod Casts
+pub mod Rows
+pub mod Passed

@@ -1,0 +1,4 @@
+mod BackLaws
+mod ItemLaws
+mod ShownLaws
+mod SlotLaws

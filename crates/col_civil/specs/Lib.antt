@@ -1,0 +1,3 @@
+pub mod Civil
+pub mod Laws
+pub mod Made
