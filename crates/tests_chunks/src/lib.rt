@@ -7,3 +7,5 @@ mod boolean;
 mod casts;
 #[cfg(test)]
 mod filter;
+#[cfg(test)]
+mod string;
