@@ -28,6 +28,7 @@ pub enum UnitChange {
 }
 
 /// The factor between two units, and which of them is the finer.
+#[inline(always)]
 pub fn unit_change(from: TimeUnit, to: TimeUnit) -> UnitChange
     ensures value { result ≡ unit_change from to }
     ensures proper { IsProper result }
@@ -42,6 +43,7 @@ pub fn unit_change(from: TimeUnit, to: TimeUnit) -> UnitChange
     }
 }
 
+#[inline(always)]
 fn in_finer_unit(tick: i64, factor: u32) -> Option<i64>
     ensures left { (y : ℤ) → result ≡ value_of (in_finer_unit factor X) tick y }
     ensures right { (x : ℤ) → result ≡ value_of (in_finer_unit factor Y) x tick }
@@ -98,6 +100,7 @@ pub fn datetime_by(tick: i64, change: UnitChange) -> Option<i64>
 
 /// A length of time after a change of unit: rounded towards zero in a coarser one, none where a
 /// finer one leaves 64 bits.
+#[inline(always)]
 pub fn duration_by(tick: i64, change: UnitChange) -> Option<i64>
     requires proper { IsProper change }
     ensures value { result ≡ value_of (duration_by change X) tick tick }
@@ -128,6 +131,7 @@ pub fn duration_in_unit(tick: i64, from: TimeUnit, to: TimeUnit) -> Option<i64>
 // ---- days
 
 /// How many ticks a day has.
+#[inline(always)]
 pub fn ticks_per_day(unit: TimeUnit) -> i64
     ensures value { result ≡ pos (ticks_per_day unit) }
 {
@@ -135,6 +139,7 @@ pub fn ticks_per_day(unit: TimeUnit) -> i64
 }
 
 /// The moment at which a day begins, none where it leaves 64 bits.
+#[inline(always)]
 pub fn day_in_unit(day: i64, unit: TimeUnit) -> Option<i64>
     ensures value { result ≡ value_of (day_in_unit unit X) day day }
     ensures left { (y : ℤ) → result ≡ value_of (day_in_unit unit X) day y }

@@ -41,6 +41,7 @@ impl TimeUnit {
     }
 
     /// How many nanoseconds a tick lasts.
+    #[inline(always)]
     pub fn nanos_per_tick(self) -> u32
         ensures value { result ≡ nanos_per_tick self }
     {
