@@ -8,4 +8,6 @@ mod casts;
 #[cfg(test)]
 mod filter;
 #[cfg(test)]
+mod same;
+#[cfg(test)]
 mod string;

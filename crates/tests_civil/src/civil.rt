@@ -1,11 +1,13 @@
 //! Civil values into columns and back, at values known by hand.
 
-use col_chunk::Int32Chunked;
+use col_chunk::{Int32Chunked, Word};
 use col_civil::{
     CivilDates, CivilDatetimes, CivilDurations, CivilTimes, datetime_to_timestamp_ms,
     datetime_to_timestamp_ns, datetime_to_timestamp_us, time_to_time64ns,
 };
-use col_logical::{DateChunked, DatetimeChunked, DurationChunked, Int32Logical, TimeChunked};
+use col_logical::{
+    DateChunked, DatetimeChunked, DurationChunked, Int32Logical, Logical, LogicalKind, TimeChunked,
+};
 use col_types::{PlSmallStr, PolarsError, TimeUnit};
 use jiff::SignedDuration;
 use jiff::civil::{Date, DateTime, Time};
@@ -29,6 +31,17 @@ fn date(rt: &impl Abort, year: i16, month: i8, day: i8) -> Date {
 /// A time of so many nanoseconds behind a second.
 fn time(rt: &impl Abort, hour: i8, minute: i8, second: i8, nanos: i32) -> Time {
     Time::new(hour, minute, second, nanos).expect(rt, "a time")
+}
+
+/// Stops the test unless this holds.
+fn holds(rt: &impl Abort, at: &str, is_so: bool) {
+    assert!(rt; is_so, "{at}");
+}
+
+/// The column has this word and a null.
+fn has<K: LogicalKind, T: Word>(rt: &impl Abort, column: &Logical<K, T>, word: T) {
+    let alike = column.len() == 2 && column.get(0) == Some(word) && column.get(1).is_none();
+    holds(rt, "other words", alike);
 }
 
 #[test]
@@ -55,19 +68,19 @@ fn dates_are_days(rt: HostRuntime) {
             name(&rt, alloc),
             items.iter().copied(),
         ).expect(&rt, "dates");
-        assert!(rt; column.len() == 2, "two rows");
-        assert!(rt;
-            column.get(0) == Some(number) && column.get(1).is_none(),
-            "{number}"
-        );
+        has(&rt, &column, number);
         let mut iter = column.as_date_iter();
-        match iter.next() {
-            Some(Some(Ok(back))) => assert!(rt; back == value, "{number}"),
-            _ => panic!(rt; "no date"),
-        }
-        assert!(rt;
-            matches!(iter.next(), Some(None)) && iter.remaining() == 0,
-            "a null"
+        let first = iter.next();
+        holds(
+            &rt,
+            "back",
+            matches!(first, Some(Some(Ok(back))) if back == value),
+        );
+        let second = iter.next();
+        holds(
+            &rt,
+            "a null",
+            matches!(second, Some(None)) && iter.remaining() == 0,
         );
     }
 }
@@ -108,15 +121,9 @@ fn moments_are_ticks(rt: HostRuntime) {
             items.iter().copied(),
             unit,
         ).expect(&rt, "moments");
-        assert!(rt; column.len() == 2, "two rows");
-        assert!(rt;
-            column.get(0) == Some(tick) && column.get(1).is_none(),
-            "{tick}"
-        );
-        assert!(rt;
-            matches!(column.as_datetime_iter().next(), Some(Some(Ok(_)))),
-            "{tick}"
-        );
+        has(&rt, &column, tick);
+        let back = column.as_datetime_iter().next();
+        holds(&rt, "back", matches!(back, Some(Some(Ok(_)))));
     }
 }
 
@@ -136,11 +143,7 @@ fn durations_round_towards_zero(rt: HostRuntime) {
             items.iter().copied(),
             unit,
         ).expect(&rt, "lengths of time");
-        assert!(rt; column.len() == 2, "two rows");
-        assert!(rt;
-            column.get(0) == Some(tick) && column.get(1).is_none(),
-            "{tick}"
-        );
+        has(&rt, &column, tick);
     }
 }
 
@@ -152,22 +155,20 @@ fn times_are_nanoseconds(rt: HostRuntime) {
         (time(&rt, 0, 0, 1, 0), 1_000_000_000),
         (time(&rt, 23, 59, 59, 999_999_999), 86_399_999_999_999),
     ] {
-        assert!(rt; time_to_time64ns(&value) == nanos, "{nanos}");
+        holds(&rt, "nanos", time_to_time64ns(&value) == nanos);
         let items = [Some(value), None];
         let column = TimeChunked::from_naive_time_options(
             alloc,
             name(&rt, alloc),
             items.iter().copied(),
         ).expect(&rt, "times");
-        assert!(rt; column.len() == 2, "two rows");
-        assert!(rt;
-            column.get(0) == Some(nanos) && column.get(1).is_none(),
-            "{nanos}"
+        has(&rt, &column, nanos);
+        let first = column.as_time_iter().next();
+        holds(
+            &rt,
+            "back",
+            matches!(first, Some(Some(Ok(back))) if back == value),
         );
-        match column.as_time_iter().next() {
-            Some(Some(Ok(back))) => assert!(rt; back == value, "{nanos}"),
-            _ => panic!(rt; "no time"),
-        }
     }
 }
 
@@ -176,27 +177,30 @@ fn each_value_may_be_there(rt: HostRuntime) {
     let alloc = rt.alloc();
     let day = [date(&rt, 1970, 1, 2)];
     let dates = DateChunked::from_naive_date(alloc, name(&rt, alloc), day.iter().copied());
-    assert!(rt; dates.is_ok(), "dates");
+    holds(&rt, "dates", dates.is_ok());
     let hour = [time(&rt, 1, 0, 0, 0)];
     let times = TimeChunked::from_naive_time(alloc, name(&rt, alloc), hour.iter().copied());
-    assert!(rt; times.is_ok(), "times");
+    holds(&rt, "times", times.is_ok());
 }
 
 #[test]
 fn ticks_that_leave_64_bits(rt: HostRuntime) {
     let alloc = rt.alloc();
     let late = DateTime::from_parts(date(&rt, 9999, 1, 1), time(&rt, 0, 0, 0, 0));
-    assert!(rt;
+    holds(
+        &rt,
+        "late",
         datetime_to_timestamp_ns(&late) == Err(PolarsError::Fit { row: 0 }),
-        "late"
     );
-    assert!(rt;
+    holds(
+        &rt,
+        "late",
         datetime_to_timestamp_us(&late) == 253_370_764_800_000_000,
-        "late"
     );
-    assert!(rt;
+    holds(
+        &rt,
+        "late",
         datetime_to_timestamp_ms(&late) == 253_370_764_800_000,
-        "late"
     );
     let items = [late];
     let moments = DatetimeChunked::from_naive_datetime(
@@ -205,9 +209,10 @@ fn ticks_that_leave_64_bits(rt: HostRuntime) {
         items.iter().copied(),
         NANOS,
     );
-    assert!(rt;
+    holds(
+        &rt,
+        "a moment",
         matches!(moments, Err(PolarsError::Fit { row: 0 })),
-        "a moment"
     );
     let items = [
         SignedDuration::from_secs(1),
@@ -219,9 +224,10 @@ fn ticks_that_leave_64_bits(rt: HostRuntime) {
         items.iter().copied(),
         NANOS,
     );
-    assert!(rt;
+    holds(
+        &rt,
+        "a length of time",
         matches!(lengths, Err(PolarsError::Fit { row: 1 })),
-        "a length of time"
     );
 }
 
@@ -234,11 +240,12 @@ fn days_outside_the_calendar(rt: HostRuntime) {
             .expect(&rt, "days")
             .into_date();
         let mut iter = column.as_date_iter();
-        assert!(rt; matches!(iter.next(), Some(Some(Ok(_)))), "inside");
+        holds(&rt, "inside", matches!(iter.next(), Some(Some(Ok(_)))));
         let refused = iter.next();
-        assert!(rt;
+        holds(
+            &rt,
+            "outside",
             matches!(refused, Some(Some(Err(PolarsError::Calendar { row: 1 })))),
-            "outside"
         );
     }
 }

@@ -8,6 +8,8 @@ mod logical;
 #[cfg(test)]
 mod numeric;
 #[cfg(test)]
+mod same;
+#[cfg(test)]
 mod series;
 #[cfg(test)]
 mod typed;

@@ -3,6 +3,7 @@
 ghost use Rattle.std.specs.Prelude.{◌≡◌};
 ghost use Rattle.col_types.specs.declared.data_type.DataType.{Date};
 
+use crate::same::holds;
 use col_chunk::{ChunkedArray, Word};
 use col_logical::{DateChunked, Int32Logical, Int64Logical, Logical, LogicalKind};
 use col_types::{DataType, PlSmallStr, TimeUnit, TimeZone};
@@ -22,30 +23,19 @@ fn days(rt: &impl Abort, alloc: Global, values: &[i32]) -> DateChunked
     words(rt, alloc, values).into_date()
 }
 
-/// The column has the word in a row.
-fn has<K: LogicalKind, T: Word>(
-    rt: &impl Abort,
-    column: &Logical<K, T>,
-    row: usize,
-    word: Option<T>,
-) {
-    assert!(rt; row < column.len(), "no row {row}");
-    assert!(rt; column.get(row) == word, "in row {row}");
-}
-
-/// The column has the days 1 and 2.
-fn has_two_days(rt: &impl Abort, column: &DateChunked) {
-    assert!(rt; column.len() == 2);
-    has(rt, column, 0, Some(1));
-    has(rt, column, 1, Some(2));
+/// The column has these words.
+fn has<K: LogicalKind, T: Word>(rt: &impl Abort, column: &Logical<K, T>, slots: &[Option<T>]) {
+    let mut alike = column.len() == slots.len();
+    for (row, slot) in slots.iter().enumerate() {
+        alike = alike && row < column.len() && column.get(row) == *slot;
+    }
+    holds(rt, "other words", alike);
 }
 
 /// The column has the days 1, 2 and 3, in so many chunks.
 fn has_three_days(rt: &impl Abort, column: &DateChunked, chunks: usize) {
-    assert!(rt; column.len() == 3 && column.n_chunks() == chunks);
-    has(rt, column, 0, Some(1));
-    has(rt, column, 1, Some(2));
-    has(rt, column, 2, Some(3));
+    holds(rt, "chunks", column.n_chunks() == chunks);
+    has(rt, column, &[Some(1), Some(2), Some(3)]);
 }
 
 #[test]
@@ -54,18 +44,16 @@ fn times_outside_the_day_are_null(rt: HostRuntime) {
     let nanos = [-1i64, 0, 86_399_999_999_999, 86_400_000_000_000];
     let words = words(&rt, alloc, nanos.as_slice());
     let times = words.into_time(alloc).expect(&rt, "times");
-    has(&rt, &times, 0, None);
-    has(&rt, &times, 1, Some(0));
-    has(&rt, &times, 2, Some(86_399_999_999_999));
-    has(&rt, &times, 3, None);
+    let wanted = [None, Some(0), Some(86_399_999_999_999), None];
+    has(&rt, &times, &wanted);
 }
 
 #[test]
 fn field_of_dates(rt: HostRuntime) {
     let dates = days(&rt, rt.alloc(), [1, 2].as_slice());
     let field = dates.field().expect(&rt, "a field");
-    assert!(rt; field.name.as_str() == "d");
-    assert!(rt; field.dtype.is_same(&DataType::Date));
+    holds(&rt, "name", field.name.as_str() == "d");
+    holds(&rt, "type", field.dtype.is_same(&DataType::Date));
 }
 
 #[test]
@@ -73,9 +61,9 @@ fn dates_are_kept(rt: HostRuntime) {
     let alloc = rt.alloc();
     let mut dates = days(&rt, alloc, [1, 2].as_slice());
     dates.shrink_to_fit().expect(&rt, "less memory");
-    has_two_days(&rt, &dates);
+    has(&rt, &dates, &[Some(1), Some(2)]);
     let copy = dates.try_clone(alloc).expect(&rt, "a copy");
-    has_two_days(&rt, &copy);
+    has(&rt, &copy, &[Some(1), Some(2)]);
 }
 
 #[test]
@@ -102,7 +90,7 @@ fn dates_are_taken_over(rt: HostRuntime) {
     let mut dates = days(&rt, alloc, [1, 2].as_slice());
     let third = days(&rt, alloc, [3].as_slice());
     let is_taken = dates.append_owned(third).is_ok();
-    assert!(rt; is_taken);
+    holds(&rt, "taken", is_taken);
     has_three_days(&rt, &dates, 2);
 }
 
@@ -112,9 +100,10 @@ fn units_and_zones_are_set(rt: HostRuntime) {
     let mut moments = words.into_datetime(TimeUnit::Nanoseconds, None);
     moments.set_time_zone(Some(TimeZone::utc()));
     moments.set_time_unit(TimeUnit::Milliseconds);
-    has(&rt, &moments, 0, Some(5));
-    assert!(rt; moments.time_unit() == TimeUnit::Milliseconds);
-    assert!(rt; moments.time_zone().is_some());
+    has(&rt, &moments, &[Some(5)]);
+    let unit = moments.time_unit();
+    holds(&rt, "unit", unit == TimeUnit::Milliseconds);
+    holds(&rt, "zone", moments.time_zone().is_some());
 }
 
 #[test]
@@ -124,7 +113,7 @@ fn moments_round_down(rt: HostRuntime) {
     let millis = moments
         .cast_time_unit(alloc, TimeUnit::Milliseconds)
         .expect(&rt, "moments");
-    has(&rt, &millis, 0, Some(-1));
+    has(&rt, &millis, &[Some(-1)]);
 }
 
 #[test]
@@ -134,5 +123,5 @@ fn lengths_round_towards_zero(rt: HostRuntime) {
     let millis = lengths
         .cast_time_unit(alloc, TimeUnit::Milliseconds)
         .expect(&rt, "lengths");
-    has(&rt, &millis, 0, Some(0));
+    has(&rt, &millis, &[Some(0)]);
 }

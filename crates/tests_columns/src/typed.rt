@@ -1,5 +1,6 @@
 //! Columns of any type from typed ones, and back: that each call succeeds, at values by hand.
 
+use crate::same::holds;
 use col_chunk::{ChunkedArray, Word};
 use col_logical::{Int32Logical, Int64Logical};
 use col_series::*;
@@ -30,14 +31,14 @@ fn bits(column: &Series) -> u32 {
 
 /// The column's chunks have so many rows in all, and there are so many of them.
 fn has_chunks(rt: &impl Abort, column: &Series, chunks: usize, rows: usize) {
-    assert_eq!(rt; column.n_chunks(), chunks);
     let mut sum = 0usize;
     let mut count = 0usize;
     for len in column.chunk_lengths() {
         sum = sum.wrapping_add(len);
         count = count.wrapping_add(1);
     }
-    assert_eq!(rt; (count, sum), (chunks, rows));
+    let counted = column.n_chunks() == chunks && count == chunks;
+    holds(rt, "chunks", counted && sum == rows);
 }
 
 #[test]
@@ -48,8 +49,8 @@ fn dates_are_words_of_32_bits(rt: HostRuntime) {
         .into_series(alloc)
         .expect(&rt, "dates");
     has_chunks(&rt, &column, 3, 2);
-    assert!(rt; column.date().is_ok() && column.time().is_err());
-    assert_eq!(rt; bits(&column), 32);
+    holds(&rt, "type", column.date().is_ok() && column.time().is_err());
+    holds(&rt, "bits", bits(&column) == 32);
 }
 
 #[test]
@@ -57,9 +58,13 @@ fn moments_are_words_of_64_bits(rt: HostRuntime) {
     let alloc = rt.alloc();
     let moments = words(&rt, alloc, [7i64].as_slice()).into_datetime(MILLIS, None);
     let column = moments.into_series(alloc).expect(&rt, "moments");
-    assert!(rt; column.datetime().is_ok() && column.duration().is_err());
-    assert_eq!(rt; bits(&column), 64);
-    assert_eq!(rt; column.null_count(), 0);
+    holds(
+        &rt,
+        "type",
+        column.datetime().is_ok() && column.duration().is_err(),
+    );
+    holds(&rt, "bits", bits(&column) == 64);
+    holds(&rt, "nulls", column.null_count() == 0);
 }
 
 #[test]
@@ -69,10 +74,14 @@ fn lengths_and_times_are_told_apart(rt: HostRuntime) {
         .into_duration(MILLIS)
         .into_series(alloc)
         .expect(&rt, "lengths");
-    assert!(rt; lengths.duration().is_ok() && lengths.datetime().is_err());
+    holds(
+        &rt,
+        "type",
+        lengths.duration().is_ok() && lengths.datetime().is_err(),
+    );
     let times = words(&rt, alloc, [7i64].as_slice())
         .into_time(alloc)
         .expect(&rt, "times");
     let times = times.into_series(alloc).expect(&rt, "times");
-    assert!(rt; times.time().is_ok() && times.date().is_err());
+    holds(&rt, "type", times.time().is_ok() && times.date().is_err());
 }

@@ -1,22 +1,29 @@
 //! Cases by hand: that each call succeeds, and what every word does at its ends. The clauses say
 //! the rest; values of the formulas and of scales stand as laws of `col_model`.
 
+use crate::same::same;
 use col_kernel::*;
 use std::alloc::AllocError;
 use std::process::Abort;
 
-/// Reading and making words at both ends of the range, and one past each.
+/// The integer as a word, where it is one, and wrapped to a word.
+fn readings<T: Word>(integer: i128) -> (Option<i128>, i128) {
+    let word = T::from_i128(integer);
+    (word.map(T::to_i128), T::wrap_i128(integer).to_i128())
+}
+
+/// Reading and making words at both ends of the range, and one past each where 128 bits have one.
 fn converts<T: Word>(rt: &impl Abort, least: i128, greatest: i128) {
-    for end in [least, greatest] {
-        assert_eq!(rt; T::from_i128(end).map(T::to_i128), Some(end), "at {end}");
-        assert_eq!(rt; T::wrap_i128(end).to_i128(), end, "at {end}");
-    }
-    let (under, over) = (least.wrapping_sub(1), greatest.wrapping_add(1));
-    assert_eq!(rt; T::wrap_i128(under).to_i128(), greatest, "at {under}");
-    assert_eq!(rt; T::wrap_i128(over).to_i128(), least, "at {over}");
-    if under < least && greatest < over {
-        assert!(rt; T::from_i128(under).is_none(), "at {under}");
-        assert!(rt; T::from_i128(over).is_none(), "at {over}");
+    same(rt, "least", readings::<T>(least), (Some(least), least));
+    same(
+        rt,
+        "greatest",
+        readings::<T>(greatest),
+        (Some(greatest), greatest),
+    );
+    if let (Some(under), Some(over)) = (least.checked_sub(1), greatest.checked_add(1)) {
+        same(rt, "under", readings::<T>(under), (None, greatest));
+        same(rt, "over", readings::<T>(over), (None, least));
     }
 }
 
@@ -195,7 +202,7 @@ fn kernels_of_one_column(rt: HostRuntime) {
 
 #[test]
 fn rescales(rt: HostRuntime) {
-    assert_eq!(rt; rescale_slot(110, 2, 4, Some(5)), Some(11_000));
-    assert_eq!(rt; rescale_slot(-1_259, 3, 1, None), Some(-12));
-    assert_eq!(rt; rescale_slot(10, 0, 0, Some(1)), None);
+    same(&rt, "up", rescale_slot(110, 2, 4, Some(5)), Some(11_000));
+    same(&rt, "down", rescale_slot(-1_259, 3, 1, None), Some(-12));
+    same(&rt, "too long", rescale_slot(10, 0, 0, Some(1)), None);
 }

@@ -6,6 +6,8 @@ mod kernel;
 #[cfg(test)]
 mod model;
 #[cfg(test)]
+mod same;
+#[cfg(test)]
 mod token;
 #[cfg(test)]
 mod types;

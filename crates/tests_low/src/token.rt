@@ -1,3 +1,4 @@
+use crate::same::same;
 use col_token::*;
 
 #[test]
@@ -11,7 +12,7 @@ fn counts_lines(rt: HostRuntime) {
         ("\r", 1),
         ("a\r\nb\r", 2),
     ] {
-        assert_eq!(rt; line_count(given.as_bytes()), wanted, "at {given:?}");
+        same(&rt, given, line_count(given.as_bytes()), wanted);
     }
 }
 
@@ -24,11 +25,7 @@ fn drops_one_return(rt: HostRuntime) {
         ("a\r\r", "a\r"),
         ("\ra", "\ra"),
     ] {
-        assert_eq!(rt;
-            content(given.as_bytes()),
-            wanted.as_bytes(),
-            "at {given:?}"
-        );
+        same(&rt, given, content(given.as_bytes()), wanted.as_bytes());
     }
 }
 
@@ -36,12 +33,13 @@ fn drops_one_return(rt: HostRuntime) {
 fn tells_where_each_token_stands(rt: HostRuntime) {
     let mut tokens = Tokens::new(b"col\ta  b\r\n\r\n \t\n c\r");
     for (wanted, start, line) in [("col", 0, 1), ("a", 4, 1), ("b", 7, 1), ("c", 16, 4)] {
-        let wanted = Token {
-            text: wanted.as_bytes(),
-            start,
-            line,
-        };
-        assert_eq!(rt; tokens.next(), Some(wanted), "at {start}");
+        let text = wanted.as_bytes();
+        same(
+            &rt,
+            wanted,
+            tokens.next(),
+            Some(Token { text, start, line }),
+        );
     }
-    assert_eq!(rt; tokens.next(), None);
+    same(&rt, "the end", tokens.next(), None);
 }

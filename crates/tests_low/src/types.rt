@@ -1,106 +1,66 @@
 // What no clause says: printed texts, and that each call succeeds. Values by hand stand as laws.
+use crate::same::{holds, same};
 use col_types::*;
 use std::alloc::Global;
 use std::fmt;
 use std::process::Abort;
-use std::test::Fail;
 
-// The value prints so.
+/// The value prints so.
 fn prints<T: fmt::Display + Drop>(rt: &impl Abort, alloc: Global, value: T, wanted: &str) {
-    match printed(alloc, value) {
-        Ok(text) => assert_eq!(rt; text.as_str(), wanted),
-        Err(_) => panic!(rt; "no memory at {wanted}"),
-    }
+    let text = format!(in alloc; "{value}").expect(rt, "a text");
+    same(rt, wanted, text.as_str(), wanted);
 }
 
-fn printed<T: fmt::Display + Drop>(alloc: Global, value: T) -> Result<String, Fail> {
-    Ok(format!(in alloc; "{value}")?)
-}
+const LEFT: Kind = Kind::Date;
 
-#[test]
-fn refusals_of_types_print_their_names(rt: HostRuntime) {
-    let (op, left, right) = (
-        OpName::Add,
-        Kind::Date,
-        Kind::Duration(TimeUnit::Milliseconds),
-    );
-    prints(
-        &rt,
-        rt.alloc(),
-        PolarsError::Lengths { left: 2, right: 3 },
-        "Lengths",
-    );
-    prints(
-        &rt,
-        rt.alloc(),
-        PolarsError::Types { op, left, right },
+const RIGHT: Kind = Kind::Duration(TimeUnit::Milliseconds);
+
+/// Each refusal, and its name.
+const REFUSALS: [(PolarsError, &str); 18] = [
+    (PolarsError::Lengths { left: 2, right: 3 }, "Lengths"),
+    (
+        PolarsError::Types {
+            op: OpName::Add,
+            left: LEFT,
+            right: RIGHT,
+        },
         "Types",
-    );
-    prints(
-        &rt,
-        rt.alloc(),
+    ),
+    (
         PolarsError::CastPair {
-            from: left,
-            to: right,
+            from: LEFT,
+            to: RIGHT,
         },
         "CastPair",
-    );
-    prints(
-        &rt,
-        rt.alloc(),
-        PolarsError::BadType { dtype: left },
-        "BadType",
-    );
-    prints(&rt, rt.alloc(), PolarsError::Scale { scale: 39 }, "Scale");
-    prints(&rt, rt.alloc(), PolarsError::Scalar { value: -1 }, "Scalar");
-}
-
-#[test]
-fn refusals_of_rows_print_their_names(rt: HostRuntime) {
-    prints(&rt, rt.alloc(), PolarsError::Strict { row: 0 }, "Strict");
-    prints(
-        &rt,
-        rt.alloc(),
+    ),
+    (PolarsError::BadType { dtype: LEFT }, "BadType"),
+    (PolarsError::Scale { scale: 39 }, "Scale"),
+    (PolarsError::Scalar { value: -1 }, "Scalar"),
+    (PolarsError::Strict { row: 0 }, "Strict"),
+    (
         PolarsError::Precision {
             precision: 2,
             digits: 3,
         },
         "Precision",
-    );
-    prints(
-        &rt,
-        rt.alloc(),
-        PolarsError::Calendar { row: 0 },
-        "Calendar",
-    );
-    prints(&rt, rt.alloc(), PolarsError::Fit { row: 0 }, "Fit");
-    prints(
-        &rt,
-        rt.alloc(),
-        PolarsError::OutOfBounds { index: 3, len: 3 },
-        "OutOfBounds",
-    );
-    prints(
-        &rt,
-        rt.alloc(),
-        PolarsError::TooLong { len: 4_294_967_296 },
-        "TooLong",
-    );
-}
+    ),
+    (PolarsError::Calendar { row: 0 }, "Calendar"),
+    (PolarsError::Fit { row: 0 }, "Fit"),
+    (PolarsError::OutOfBounds { index: 3, len: 3 }, "OutOfBounds"),
+    (PolarsError::TooLong { len: 4_294_967_296 }, "TooLong"),
+    (PolarsError::GatherZero, "GatherZero"),
+    (PolarsError::Zone, "Zone"),
+    (PolarsError::Format, "Format"),
+    (PolarsError::SchemaMismatch, "SchemaMismatch"),
+    (PolarsError::FalseMark, "FalseMark"),
+    (PolarsError::NoMemory, "NoMemory"),
+];
 
 #[test]
-fn other_refusals_print_their_names(rt: HostRuntime) {
-    prints(&rt, rt.alloc(), PolarsError::GatherZero, "GatherZero");
-    prints(&rt, rt.alloc(), PolarsError::Zone, "Zone");
-    prints(&rt, rt.alloc(), PolarsError::Format, "Format");
-    prints(
-        &rt,
-        rt.alloc(),
-        PolarsError::SchemaMismatch,
-        "SchemaMismatch",
-    );
-    prints(&rt, rt.alloc(), PolarsError::FalseMark, "FalseMark");
-    prints(&rt, rt.alloc(), PolarsError::NoMemory, "NoMemory");
+fn refusals_print_their_names(rt: HostRuntime) {
+    for (refusal, name) in REFUSALS {
+        prints(&rt, rt.alloc(), refusal, name);
+    }
 }
 
 #[test]
@@ -108,73 +68,103 @@ fn units_have_names(rt: HostRuntime) {
     let unit = TimeUnit::Microseconds;
     let back: TimeUnit = (&unit.to_arrow()).into();
     prints(&rt, rt.alloc(), unit, "\u{3bc}s");
-    assert_eq!(rt; unit.to_ascii(), "us");
-    assert_eq!(rt; unit.nanos_per_tick(), 1_000);
-    assert_eq!(rt; back, unit);
-    assert!(rt; unit < TimeUnit::Milliseconds);
-    assert_eq!(rt; get_time_units(unit, TimeUnit::Nanoseconds), unit);
+    same(&rt, "ascii", unit.to_ascii(), "us");
+    same(&rt, "nanos", unit.nanos_per_tick(), 1_000);
+    same(&rt, "arrow", back, unit);
+    holds(&rt, "order", unit < TimeUnit::Milliseconds);
+    let coarser = get_time_units(unit, TimeUnit::Nanoseconds);
+    same(&rt, "coarser", coarser, unit);
 }
 
 #[test]
-fn small_words_have_defaults(rt: HostRuntime) -> Result<(), Fail> {
+fn small_words_have_defaults(rt: HostRuntime) {
     let options: CastOptions = Default::default();
+    holds(&rt, "options", options.is_strict());
     let plain: CastOptionsImpl = Default::default();
     let switches: CastOptionsImpl = CastOptions::Overflowing.into();
-    assert!(rt; options.is_strict());
-    assert!(rt; !plain.wrapped && !plain.partial && switches.wrapped);
-    assert_eq!(rt; IsSorted::Ascending.reverse(), IsSorted::Descending);
-    let text = PlSmallStr::from_str(rt.alloc(), "Zeit μ")?;
-    let copy = text.clone()?;
-    assert!(rt; copy.as_str() == "Zeit μ" && copy == text);
-    Ok(())
+    same(&rt, "plain", (plain.wrapped, plain.partial), (false, false));
+    holds(&rt, "switches", switches.wrapped);
+    let turned = IsSorted::Ascending.reverse();
+    same(&rt, "turned", turned, IsSorted::Descending);
 }
 
 #[test]
-fn types_keep_their_nesting(rt: HostRuntime) -> Result<(), Fail> {
-    let dates = DataType::List(Box::new(rt.alloc(), DataType::Date)?);
-    let copy = dates.try_clone(rt.alloc())?;
-    assert!(rt; copy == dates && copy.is_same(&dates) && copy.is_nested());
-    assert!(rt; copy.is_column_type() && !copy.is_built() && !copy.is_expression_target());
-    assert!(rt; copy.leaf_dtype().is_temporal());
-    Ok(())
+fn texts_are_copied(rt: HostRuntime) {
+    let text = PlSmallStr::from_str(rt.alloc(), "Zeit μ").expect(&rt, "a text");
+    let copy = text.clone().expect(&rt, "a copy");
+    same(&rt, "copy", copy.as_str(), "Zeit μ");
+    holds(&rt, "equal", copy == text);
+}
+
+/// What a type is: nested, of a column, built, a target of expressions.
+fn traits_of(dtype: &DataType) -> (bool, bool, bool, bool) {
+    let (nested, column) = (dtype.is_nested(), dtype.is_column_type());
+    (
+        nested,
+        column,
+        dtype.is_built(),
+        dtype.is_expression_target(),
+    )
 }
 
 #[test]
-fn leaves_are_changed(rt: HostRuntime) -> Result<(), Fail> {
-    let time = DataType::Date.cast_leaf(rt.alloc(), &DataType::Time)?;
-    assert!(rt; time.is_same(&DataType::Time) && time.is_built() && !time.is_integer());
-    let stored = time.to_physical(rt.alloc())?;
-    assert!(rt; stored.is_same(&DataType::Int64) && stored.is_expression_type());
-    Ok(())
+fn types_keep_their_nesting(rt: HostRuntime) {
+    let alloc = rt.alloc();
+    let leaf = Box::new(alloc, DataType::Date).expect(&rt, "a leaf");
+    let dates = DataType::List(leaf);
+    let copy = dates.try_clone(alloc).expect(&rt, "a copy");
+    holds(&rt, "equal", copy == dates);
+    holds(&rt, "same", copy.is_same(&dates));
+    same(&rt, "list", traits_of(&copy), (true, true, false, false));
+    holds(&rt, "leaf", copy.leaf_dtype().is_temporal());
 }
 
 #[test]
-fn supertypes_are_refused_with_both_types(rt: HostRuntime) -> Result<(), Fail> {
-    let wide = try_get_supertype(rt.alloc(), &DataType::Int8, &DataType::UInt8)?;
-    assert!(rt; wide.is_same(&DataType::Int16));
-    assert!(rt; flat_supertype(&DataType::Date, &DataType::Time).is_none());
-    match try_get_supertype(rt.alloc(), &DataType::Date, &DataType::Time) {
-        Ok(_) => assert!(rt; false),
-        Err(refusal) => assert_eq!(rt;
-            refusal,
-            PolarsError::Types {
-                op: OpName::Supertype,
-                left: Kind::Date,
-                right: Kind::Time,
-            }
-        ),
-    }
-    Ok(())
+fn leaves_are_changed(rt: HostRuntime) {
+    let alloc = rt.alloc();
+    let time = DataType::Date.cast_leaf(alloc, &DataType::Time);
+    let time = time.expect(&rt, "a time");
+    holds(
+        &rt,
+        "time",
+        time.is_same(&DataType::Time) && time.is_built(),
+    );
+    let stored = time.to_physical(alloc).expect(&rt, "an integer");
+    holds(&rt, "stored", stored.is_same(&DataType::Int64));
+    holds(&rt, "integer", stored.is_integer() && !time.is_integer());
+    holds(&rt, "expression", stored.is_expression_type());
 }
 
-// The zone `Europe/Berlin`, handed in.
-fn berlin(alloc: Global) -> Result<ZoneNames, Fail> {
+#[test]
+fn supertypes_are_refused_with_both_types(rt: HostRuntime) {
+    let alloc = rt.alloc();
+    let wide = try_get_supertype(alloc, &DataType::Int8, &DataType::UInt8);
+    let wide = wide.expect(&rt, "a type");
+    holds(&rt, "wide", wide.is_same(&DataType::Int16));
+    let none = flat_supertype(&DataType::Date, &DataType::Time);
+    holds(&rt, "none", none.is_none());
+    let refusal = PolarsError::Types {
+        op: OpName::Supertype,
+        left: Kind::Date,
+        right: Kind::Time,
+    };
+    let answer = try_get_supertype(alloc, &DataType::Date, &DataType::Time);
+    let refused = match answer {
+        Ok(_) => false,
+        Err(given) => given == refusal,
+    };
+    holds(&rt, "refused", refused);
+}
+
+/// The zone `Europe/Berlin`, handed in.
+fn berlin(rt: &impl Abort, alloc: Global) -> ZoneNames {
     let mut names = ZoneNames::new(alloc);
-    names.insert(PlSmallStr::from_str(alloc, "Europe/Berlin")?)?;
-    Ok(names)
+    let name = PlSmallStr::from_str(alloc, "Europe/Berlin").expect(rt, "a name");
+    names.insert(name).expect(rt, "a zone");
+    names
 }
 
-// Whether the text names the zone.
+/// Whether the text names the zone.
 fn is_named(text: &str, names: &ZoneNames, wanted: &str) -> bool {
     match TimeZone::opt_try_new(Some(text), names) {
         Ok(Some(zone)) => zone.as_str() == wanted,
@@ -183,34 +173,32 @@ fn is_named(text: &str, names: &ZoneNames, wanted: &str) -> bool {
 }
 
 #[test]
-fn texts_name_zones(rt: HostRuntime) -> Result<(), Fail> {
-    let names = berlin(rt.alloc())?;
-    assert!(rt; names.contains("Europe/Berlin"));
-    assert!(rt; is_named("Europe/Berlin", &names, "Europe/Berlin"));
-    assert!(rt; is_named("+13:00", &names, "Etc/GMT-13"));
-    assert!(rt; TimeZone::opt_try_new(Some("-13:00"), &names).is_err());
-    assert!(rt; TimeZone::validate_time_zone("Etc/GMT+12", &names).is_ok());
-    assert_eq!(rt;
-        TimeZone::_canonical_timezone_impl(Some("utc")),
-        Some("UTC")
-    );
-    Ok(())
+fn texts_name_zones(rt: HostRuntime) {
+    let names = berlin(&rt, rt.alloc());
+    let berlin = "Europe/Berlin";
+    holds(&rt, "handed in", names.contains(berlin));
+    holds(&rt, "a name", is_named(berlin, &names, berlin));
+    holds(&rt, "an offset", is_named("+13:00", &names, "Etc/GMT-13"));
+    holds(&rt, "no offset", !is_named("-13:00", &names, "Etc/GMT+13"));
+    let valid = TimeZone::validate_time_zone("Etc/GMT+12", &names);
+    holds(&rt, "valid", valid.is_ok());
+    let canonical = TimeZone::_canonical_timezone_impl(Some("utc"));
+    same(&rt, "canonical", canonical, Some("UTC"));
 }
 
 #[test]
-fn offsets_have_names(rt: HostRuntime) -> Result<(), Fail> {
-    let behind = parse_fixed_offset(rt.alloc(), "-0300")?;
-    assert_eq!(rt; behind.as_str(), "Etc/GMT+3");
-    Ok(())
+fn offsets_have_names(rt: HostRuntime) {
+    let behind = parse_fixed_offset(rt.alloc(), "-0300").expect(&rt, "a zone");
+    same(&rt, "offset", behind.as_str(), "Etc/GMT+3");
 }
 
 #[test]
-fn zones_are_compared(rt: HostRuntime) -> Result<(), Fail> {
+fn zones_are_compared(rt: HostRuntime) {
     let names = ZoneNames::new(rt.alloc());
     let utc = TimeZone::utc();
-    let east = parse_time_zone("Etc/GMT-1", &names)?;
+    let east = parse_time_zone("Etc/GMT-1", &names).expect(&rt, "a zone");
     prints(&rt, rt.alloc(), east, "Etc/GMT-1");
-    assert!(rt; !TimeZone::eq_wildcard_aware(&utc, &east));
-    assert!(rt; TimeZone::eq_none_as_utc(None, Some(&utc)));
-    Ok(())
+    let equal = TimeZone::eq_wildcard_aware(&utc, &east);
+    holds(&rt, "two zones", !equal);
+    holds(&rt, "none", TimeZone::eq_none_as_utc(None, Some(&utc)));
 }

@@ -1,4 +1,5 @@
-// That calls succeed, what they answer, and how deep they go.
+//! How deep and how large trees may be, and that a covered chain folds. What nodes answer, which of them is
+//! refused first, and which plans hold is told by clauses, and shown by the rows of `col_rows`.
 ghost use Rattle.std.specs.Prelude.{◌≡◌, ◌<◌, true, length, IfOk};
 ghost use Rattle.col_model.specs.Column.{is_built_type};
 ghost use Rattle.col_expr.specs.Built.{is_built_cast};
@@ -10,28 +11,23 @@ use std::marker::Brand;
 use std::sync::ledger::{Blank, Ledger};
 use std::test::Fail;
 
-pub(crate) fn moments(unit: TimeUnit) -> DataType
+const NS: TimeUnit = TimeUnit::Nanoseconds;
+
+const MS: TimeUnit = TimeUnit::Milliseconds;
+
+fn moments(unit: TimeUnit) -> DataType
     ensures built { is_built_type result ≡ true }
     ensures target { is_built_cast result ≡ true }
 {
     DataType::Datetime(unit, None)
 }
 
-fn column(alloc: Global, dtype: DataType, slots: &[Option<i128>]) -> Result<Series, Fail>
-    requires built { is_built_type dtype ≡ true }
-{
-    let name = PlSmallStr::from_str(alloc, "a")?;
-    Ok(Series::from_slots(alloc, name, &dtype, slots)?)
-}
-
-pub(crate) fn one_input(
-    alloc: Global,
-    unit: TimeUnit,
-    slots: &[Option<i128>],
-) -> Result<Inputs, Fail>
+/// Inputs of one column of moments in milliseconds.
+fn one_input(alloc: Global, slots: &[Option<i128>]) -> Result<Inputs, Fail>
     ensures one { IfOk result (λ inputs. length inputs ≡ 1) }
 {
-    let column = column(alloc, moments(unit), slots)?;
+    let name = PlSmallStr::from_str(alloc, "a")?;
+    let column = Series::from_slots(alloc, name, &moments(MS), slots)?;
     let mut inputs = Inputs::new(alloc);
     match inputs.push(column) {
         Ok(()) => Ok(inputs),
@@ -39,36 +35,21 @@ pub(crate) fn one_input(
     }
 }
 
-// Moments, and lengths of time in the same unit.
-pub(crate) fn two_inputs(
-    alloc: Global,
-    moments: &[Option<i128>],
-    lengths: &[Option<i128>],
-) -> Result<Inputs, Fail> {
-    let mut inputs = one_input(alloc, TimeUnit::Milliseconds, moments)?;
-    let column = column(alloc, DataType::Duration(TimeUnit::Milliseconds), lengths)?;
-    match inputs.push(column) {
-        Ok(()) => Ok(inputs),
-        Err(_) => Err(Fail::new("no memory")),
-    }
-}
-
-pub(crate) fn built(answer: Result<Expr, ExprRefused>) -> Result<Expr, Fail> {
+fn built(answer: Result<Expr, ExprRefused>) -> Result<Expr, Fail> {
     match answer {
         Ok(expr) => Ok(expr),
         Err(refused) => Err(Fail::from(refused.cause)),
     }
 }
 
-pub(crate) fn cast(
-    alloc: Global,
-    operand: Expr,
-    dtype: DataType,
-    options: CastOptions,
-) -> Result<Expr, Fail>
-    requires built { is_built_cast dtype ≡ true }
-{
-    built(Expr::cast(alloc, operand, dtype, options))
+/// Casts of moments to one unit after the other.
+fn chain(alloc: Global, operand: Expr, units: &[TimeUnit]) -> Result<Expr, Fail> {
+    let mut expr = operand;
+    for unit in units.iter() {
+        let cast = Expr::cast(alloc, expr, moments(*unit), CastOptions::NonStrict);
+        expr = built(cast)?;
+    }
+    Ok(expr)
 }
 
 fn counted<L: Ledger>(
@@ -76,223 +57,58 @@ fn counted<L: Ledger>(
     blank: Blank,
     expr: &Expr,
     inputs: &Inputs,
+    plan: &RangePlan,
 ) -> Result<Series, EvalError>
     requires name { blank.name ≡ L.name }
     requires parts { blank.parts ≡ L.parts }
     requires open { 0 < blank.parts }
 {
     let mut steps = Steps::<L>::new(blank);
-    evaluate(alloc, expr, inputs, &mut steps)
+    evaluate_folded(alloc, expr, inputs, plan, &mut steps)
 }
 
-fn answer(alloc: Global, expr: &Expr, inputs: &Inputs) -> Result<Series, EvalError> {
-    counted::<Brand>(alloc, Blank::new(1), expr, inputs)
+fn answer(
+    alloc: Global,
+    expr: &Expr,
+    inputs: &Inputs,
+    plan: &RangePlan,
+) -> Result<Series, EvalError> {
+    counted::<Brand>(alloc, Blank::new(1), expr, inputs, plan)
 }
 
-pub(crate) fn tick(column: &Series, row: usize) -> Result<Option<i64>, Fail> {
-    Ok(match column.get(row)? {
-        AnyValue::Datetime(tick, _, _) | AnyValue::Duration(tick, _) => Some(tick),
+fn tick(column: &Series, row: usize) -> Option<i64> {
+    match column.get(row) {
+        Ok(AnyValue::Datetime(tick, _, _)) => Some(tick),
         _ => None,
-    })
+    }
 }
 
-fn shows(
-    alloc: Global,
-    inputs: &Inputs,
-    expr: Result<Expr, ExprRefused>,
-    wanted: &[Option<i64>],
-) -> Result<(), Fail> {
-    let expr = built(expr)?;
-    let column = answer(alloc, &expr, inputs)?;
-    for (row, slot) in wanted.iter().enumerate() {
-        if tick(&column, row)? != *slot {
-            return Err(Fail::new("another slot"));
-        }
+/// The deepest chain of casts, and a cast more.
+fn deepest(alloc: Global) -> Result<Result<Expr, ExprRefused>, Fail> {
+    let mut deepest = Expr::input(0);
+    for _cast in 0..511 {
+        deepest = chain(alloc, deepest, &[MS])?;
     }
-    Ok(())
-}
-
-fn refuses(
-    alloc: Global,
-    inputs: &Inputs,
-    expr: Result<Expr, ExprRefused>,
-    wanted: EvalError,
-) -> Result<(), Fail> {
-    let expr = built(expr)?;
-    match answer(alloc, &expr, inputs) {
-        Ok(_) => Err(Fail::new("not refused")),
-        Err(error) if error == wanted => Ok(()),
-        Err(error) => Err(Fail::from(error)),
-    }
+    Ok(Expr::cast(alloc, deepest, moments(MS), CastOptions::Strict))
 }
 
 #[test]
 fn the_deepest_expression_is_evaluated(rt: HostRuntime) -> Result<(), Fail> {
     let alloc = rt.alloc();
-    let inputs = one_input(alloc, TimeUnit::Milliseconds, &[Some(7)])?;
-    let mut deepest = Expr::input(0);
-    for _cast in 0..511 {
-        let target = moments(TimeUnit::Milliseconds);
-        deepest = cast(alloc, deepest, target, CastOptions::Strict)?;
-    }
-    let target = moments(TimeUnit::Milliseconds);
-    match Expr::cast(alloc, deepest, target, CastOptions::Strict) {
+    match deepest(alloc)? {
         Ok(_) => Err(Fail::new("not refused")),
         Err(refused) => {
             assert!(rt; refused.cause == ExprCause::ExprTooDeep { depth: 513 });
             assert!(rt; refused.left.depth() == 512 && refused.left.nodes() == 512);
-            let column = answer(alloc, &refused.left, &inputs)?;
-            assert_eq!(rt; tick(&column, 0)?, Some(7));
+            let inputs = one_input(alloc, &[Some(7)])?;
+            let column = answer(alloc, &refused.left, &inputs, &RangePlan::new(alloc))?;
+            assert_eq!(rt; tick(&column, 0), Some(7));
             Ok(())
         }
     }
 }
 
-// Three moments, one of them null, and three lengths of time.
-fn operands(alloc: Global) -> Result<Inputs, Fail> {
-    let lengths = [Some(2), Some(3), Some(4)];
-    two_inputs(alloc, &[Some(5), None, Some(-7)], &lengths)
-}
-
-#[test]
-fn a_sum_has_its_column(rt: HostRuntime) -> Result<(), Fail> {
-    let alloc = rt.alloc();
-    let sum = Expr::binary(alloc, BinOp::Add, Expr::input(0), Expr::input(1));
-    shows(alloc, &operands(alloc)?, sum, &[Some(7), None, Some(-3)])
-}
-
-#[test]
-fn a_number_on_the_right_has_its_column(rt: HostRuntime) -> Result<(), Fail> {
-    let alloc = rt.alloc();
-    let half = Expr::scalar_right(alloc, Expr::input(0), ScalarOp::TruncDiv, 2);
-    shows(alloc, &operands(alloc)?, half, &[Some(2), None, Some(-3)])
-}
-
-#[test]
-fn a_number_on_the_left_has_its_column(rt: HostRuntime) -> Result<(), Fail> {
-    let alloc = rt.alloc();
-    let rest = Expr::scalar_left(alloc, 10, BinOp::Sub, Expr::input(0));
-    shows(alloc, &operands(alloc)?, rest, &[Some(5), None, Some(17)])
-}
-
-#[test]
-fn a_shift_has_its_column(rt: HostRuntime) -> Result<(), Fail> {
-    let alloc = rt.alloc();
-    let down = Expr::shift(alloc, Expr::input(0), 1);
-    shows(alloc, &operands(alloc)?, down, &[None, Some(5), None])
-}
-
-// One less, counted in microseconds.
-fn one_less(alloc: Global) -> Result<Expr, Fail> {
-    let finer = built(Expr::unit(alloc, Expr::input(0), TimeUnit::Microseconds))?;
-    let less = UnaryOp::ScalarRight(ScalarOp::Sub, 1);
-    built(Expr::unary(alloc, less, finer))
-}
-
-#[test]
-fn units_have_their_columns(rt: HostRuntime) -> Result<(), Fail> {
-    let alloc = rt.alloc();
-    let coarser = moments(TimeUnit::Milliseconds);
-    let coarser = Expr::cast(alloc, one_less(alloc)?, coarser, CastOptions::NonStrict);
-    shows(
-        alloc,
-        &operands(alloc)?,
-        coarser,
-        &[Some(4), None, Some(-8)],
-    )
-}
-
-// Three moments and two lengths of time.
-fn unequal_operands(alloc: Global) -> Result<Inputs, Fail> {
-    two_inputs(alloc, &[Some(5), None, Some(-7)], &[Some(2), Some(3)])
-}
-
-#[test]
-fn lengths_come_before_types(rt: HostRuntime) -> Result<(), Fail> {
-    let alloc = rt.alloc();
-    let apart = Expr::binary(alloc, BinOp::Mul, Expr::input(0), Expr::input(1));
-    let lengths = EvalError::Lengths {
-        node: 2,
-        left: 3,
-        right: 2,
-    };
-    refuses(alloc, &unequal_operands(alloc)?, apart, lengths)
-}
-
-#[test]
-fn types_without_an_operator_are_refused(rt: HostRuntime) -> Result<(), Fail> {
-    let alloc = rt.alloc();
-    let unlisted = Expr::binary(alloc, BinOp::Mul, Expr::input(0), Expr::input(0));
-    let unsupported = EvalError::Unsupported { node: 2 };
-    refuses(alloc, &unequal_operands(alloc)?, unlisted, unsupported)
-}
-
-#[test]
-fn the_left_operand_comes_first(rt: HostRuntime) -> Result<(), Fail> {
-    let alloc = rt.alloc();
-    let both = Expr::binary(alloc, BinOp::Mul, Expr::input(7), Expr::input(8));
-    let left = EvalError::NoColumn {
-        node: 0,
-        index: 7,
-        count: 2,
-    };
-    refuses(alloc, &unequal_operands(alloc)?, both, left)
-}
-
-// A null and a moment.
-fn one_operand(alloc: Global) -> Result<Inputs, Fail> {
-    one_input(alloc, TimeUnit::Milliseconds, &[None, Some(5)])
-}
-
-#[test]
-fn a_number_past_the_word_is_refused(rt: HostRuntime) -> Result<(), Fail> {
-    let alloc = rt.alloc();
-    let too_large = Expr::scalar_right(alloc, Expr::input(0), ScalarOp::Add, 1 << 63);
-    let scalar = EvalError::Scalar { node: 1 };
-    refuses(alloc, &one_operand(alloc)?, too_large, scalar)
-}
-
-#[test]
-fn a_type_that_no_column_has_is_refused(rt: HostRuntime) -> Result<(), Fail> {
-    let alloc = rt.alloc();
-    let text = Expr::cast(alloc, Expr::input(0), DataType::String, CastOptions::Strict);
-    refuses(
-        alloc,
-        &one_operand(alloc)?,
-        text,
-        EvalError::BadType { node: 1 },
-    )
-}
-
-#[test]
-fn a_lost_slot_is_refused(rt: HostRuntime) -> Result<(), Fail> {
-    let alloc = rt.alloc();
-    let late = built(Expr::scalar_right(alloc, Expr::input(0), ScalarOp::Add, 1 << 62))?;
-    let finer = moments(TimeUnit::Microseconds);
-    let lossy = Expr::cast(alloc, late, finer, CastOptions::Strict);
-    refuses(
-        alloc,
-        &one_operand(alloc)?,
-        lossy,
-        EvalError::Strict { node: 2, row: 1 },
-    )
-}
-
-#[test]
-fn the_refused_node_is_the_first(rt: HostRuntime) -> Result<(), Fail> {
-    let alloc = rt.alloc();
-    let length = DataType::Duration(TimeUnit::Milliseconds);
-    let unlisted = Expr::cast(alloc, Expr::input(0), length, CastOptions::NonStrict);
-    let past_it = Expr::shift(alloc, built(unlisted)?, 1);
-    refuses(
-        alloc,
-        &one_operand(alloc)?,
-        past_it,
-        EvalError::Unsupported { node: 1 },
-    )
-}
-
-// The full tree of so many levels.
+/// The full tree of so many levels.
 fn full(alloc: Global, levels: u32) -> Result<Expr, Fail> {
     if levels <= 1 {
         return Ok(Expr::input(0));
@@ -316,4 +132,46 @@ fn the_largest_expression_is_built(rt: HostRuntime) -> Result<(), Fail> {
             Ok(())
         }
     }
+}
+
+/// A million moments in milliseconds, from 0 to 10 over and over.
+fn a_million_rows(alloc: Global) -> Result<Inputs, Fail> {
+    let mut slots = Vec::new(alloc);
+    for row in 0..1_000_000_u64 {
+        match slots.push(Some(i128::from(row % 11))) {
+            Ok(()) => {}
+            Err(_) => return Err(Fail::new("no memory")),
+        }
+    }
+    one_input(alloc, &slots)
+}
+
+/// Two hundred and fifty-five times the casts to nanoseconds and back, and a plan that covers each.
+fn long_chain(alloc: Global) -> Result<(Expr, RangePlan), Fail> {
+    let mut expr = Expr::input(0);
+    let mut covered = RangePlan::new(alloc);
+    covered.cover(0, 0, 10)?;
+    for pair in 0..255 {
+        expr = chain(alloc, expr, &[NS, MS])?;
+        covered.cover(2 * pair + 1, 0, 10_000_000)?;
+        covered.cover(2 * pair + 2, 0, 10)?;
+    }
+    Ok((expr, covered))
+}
+
+// Plain evaluation would cast 102,000,000,000 slots.
+#[test]
+fn a_long_chain_folds_in_time(rt: HostRuntime) -> Result<(), Fail> {
+    let alloc = rt.alloc();
+    let inputs = a_million_rows(alloc)?;
+    let (expr, covered) = long_chain(alloc)?;
+    assert!(rt; covered.bounds(510) == Some((0, 10)) && covered.bounds(511).is_none());
+    for _call in 0..200 {
+        let column = answer(alloc, &expr, &inputs, &covered)?;
+        assert_eq!(rt; column.len(), 1_000_000);
+        for (row, wanted) in [(0, Some(0)), (10, Some(10)), (999_999, Some(0))] {
+            assert_eq!(rt; tick(&column, row), wanted, "at {row}");
+        }
+    }
+    Ok(())
 }

@@ -4,12 +4,6 @@
 #[cfg(test)]
 mod expr;
 #[cfg(test)]
-mod fold;
-#[cfg(test)]
-mod plan;
-#[cfg(test)]
 mod prog;
 #[cfg(test)]
 mod runs;
-#[cfg(test)]
-mod text;
