@@ -4,10 +4,9 @@ use Rattle.std.specs.Int.{w64}
 use Rattle.col_types.specs.declared.data_type.DataType.{DataType, Time}
 use Rattle.col_types.specs.declared.cast_options.CastOptions.{CastOptions}
 use Rattle.col_model.specs.Arithmetic.{WordType, Signed}
-use Rattle.col_model.specs.CastTable.{narrowed}
+use Rattle.col_model.specs.CastTable.{in_word, narrowed}
 use Rattle.col_model.specs.Formula.{X}
 use Rattle.col_logical.specs.Logical.{is_time}
-use Rattle.col_cast.specs.WordCasts.{in_word}
 use Rattle.col_cast.specs.Casts.{Ruled, rule_in, word_of}
 use Rattle.col_cast.specs.Rows.{rule_of}
 use Rattle.col_cast.specs.declared.row.Row.TheVariants.{Reread}

@@ -14,9 +14,8 @@ use Rattle.col_types.specs.declared.is_sorted.IsSorted.TheVariants.{Not}
 use Rattle.col_rule.specs.Columns.{mapped_chunks}
 use Rattle.col_model.specs.ColumnCalls.{first_lost}
 use Rattle.col_model.specs.Formula.{X, value_of, slot_by}
-use Rattle.col_model.specs.CastTable.{narrowed}
+use Rattle.col_model.specs.CastTable.{is_boolean, narrowed}
 use Rattle.col_model.specs.Words.{is_word_slot}
-use Rattle.col_cast.specs.WordCasts.{is_boolean}
 use Rattle.col_cast.specs.Casts.{word_of}
 use Rattle.col_cast.specs.Rows.{IsRowOf}
 use Rattle.col_cast.specs.declared.row.Row.{Row}

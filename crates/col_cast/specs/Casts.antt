@@ -8,8 +8,7 @@ use Rattle.col_types.specs.declared.cast_options.CastOptions.TheVariants.{NonStr
 use Rattle.col_model.specs.Arithmetic.{WordType, Unsigned}
 use Rattle.col_model.specs.Column.{physical_word}
 use Rattle.col_model.specs.Formula.{Formula, X}
-use Rattle.col_model.specs.CastTable.{CastRule, resolved_target}
-use Rattle.col_cast.specs.WordCasts.{is_boolean, table_rule}
+use Rattle.col_model.specs.CastTable.{CastRule, cast_rule, is_boolean, resolved_target}
 
 -- the word in which a slot of the type comes and goes: that which stores the type, and for a truth
 -- value one of 8 bits
@@ -29,15 +28,15 @@ rule_or_same (Some rule) = rule
 
 -- the rule of the table that was chosen
 abbrev pub rule_in : Ruled → CastRule
-rule_in ruled = rule_or_same (table_rule ruled.from ruled.to ruled.options)
+rule_in ruled = rule_or_same (cast_rule ruled.from ruled.to ruled.options)
 
 -- the formula that the same types have where a cast makes null of what would wrap
 abbrev pub kept_in : Ruled → Formula
-kept_in ruled = (rule_or_same (table_rule ruled.from ruled.to NonStrict)).formula
+kept_in ruled = (rule_or_same (cast_rule ruled.from ruled.to NonStrict)).formula
 
 -- the table has the rule that was chosen
 abbrev pub IsListed : Ruled → Type 0
-IsListed ruled = table_rule ruled.from ruled.to ruled.options ≡ Some (rule_in ruled)
+IsListed ruled = cast_rule ruled.from ruled.to ruled.options ≡ Some (rule_in ruled)
 
 -- what is chosen for a type and a target that leaves nothing open, or none
 abbrev pub ruled_to : DataType → DataType → CastOptions → Option Ruled
@@ -45,7 +44,7 @@ ruled_to from to options = option_map (λ rule. record {
   from = from;
   to = to;
   options = options;
-}) (table_rule from to options)
+}) (cast_rule from to options)
 
 -- what is chosen for a type and a target, or none; what the target leaves open is taken from the
 -- type

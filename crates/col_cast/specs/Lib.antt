@@ -1,4 +1,3 @@
-pub mod WordCasts
 pub mod Casts
 pub mod Rows
 pub mod Passed

@@ -6,9 +6,8 @@ use Rattle.col_types.specs.declared.cast_options.CastOptions.{CastOptions}
 use Rattle.col_model.specs.Arithmetic.{WordType, Signed, Unsigned}
 use Rattle.col_model.specs.Formula.{Formula, X, NonZero}
 use Rattle.col_model.specs.CastTable as table
-use Rattle.col_model.specs.CastTable.{CastRule}
+use Rattle.col_model.specs.CastTable.{CastRule, cast_rule, in_word, is_boolean}
 use Rattle.col_model.specs.UnitChange.{datetime_in_unit, duration_in_unit, day_in_unit}
-use Rattle.col_cast.specs.WordCasts.{is_boolean, in_word, table_rule}
 use Rattle.col_cast.specs.Casts.{word_of, is_plain}
 use Rattle.col_cast.specs.declared.row.Row.{Row}
 use Rattle.col_cast.specs.declared.row.Row.TheVariants as rows
@@ -68,5 +67,5 @@ IsRowOf from to (rows.Ticks row) = Leads from to (tick_source row) (Signed w64) 
 -- a row that was chosen for two types: it is the table's, whatever the options
 pub record IsChosen (from to : DataType) (row : Row) : Type 0 where
   pub listed :
-      (options : CastOptions) → table_rule from to options ≡ Some (rule_of to options row)
+      (options : CastOptions) → cast_rule from to options ≡ Some (rule_of to options row)
   pub fits : IsRowOf from to row

@@ -7,12 +7,12 @@ ghost use Rattle.col_types.specs.DataType.{is_integer, same_type};
 ghost use Rattle.col_types.specs.declared.data_type.DataType.{DataType};
 ghost use Rattle.col_types.specs.declared.cast_options.CastOptions.{CastOptions};
 ghost use Rattle.col_model.specs.Arithmetic.{Signed, Unsigned};
-ghost use Rattle.col_model.specs.CastTable.{pair_rule, rising};
+ghost use Rattle.col_model.specs.CastTable.{cast_rule, rising, temporal_rule, word_rule};
+ghost use Rattle.col_model.specs.CastTable.{is_boolean, is_counted, is_reread};
 ghost use Rattle.col_model.specs.Formula.{X};
 ghost use Rattle.col_model.specs.UnitChange.{datetime_in_unit, duration_in_unit};
 ghost use Rattle.col_cast.specs.Casts.{is_plain, word_of};
 ghost use Rattle.col_cast.specs.Rows.{IsRowOf, rule_of};
-ghost use Rattle.col_cast.specs.WordCasts.{is_boolean, is_counted, is_reread, table_rule, word_rule};
 
 use col_model::{UnitChange, unit_change};
 use col_types::{DataType as Type, TimeUnit};
@@ -83,9 +83,9 @@ fn duration_row(old: TimeUnit, new: TimeUnit) -> Row
 }
 
 /// The row for a pair of types of dates and times that differ, or none.
-fn pair_row(from: &Type, to: &Type) -> Option<Row>
+fn temporal_row(from: &Type, to: &Type) -> Option<Row>
     ensures rule { (options : CastOptions) →
-        option_map (rule_of to.now options) result ≡ pair_rule from.now to.now options }
+        option_map (rule_of to.now options) result ≡ temporal_rule from.now to.now options }
     ensures row { IfSome result (IsRowOf from.now to.now) }
 {
     match (from, to) {
@@ -154,13 +154,13 @@ fn word_row(from: &Type, to: &Type) -> Option<Row>
 /// The row from a type to a target that leaves nothing open, or none.
 pub(crate) fn row_of(from: &Type, to: &Type) -> Option<Row>
     ensures rule { (options : CastOptions) →
-        option_map (rule_of to.now options) result ≡ table_rule from.now to.now options }
+        option_map (rule_of to.now options) result ≡ cast_rule from.now to.now options }
     ensures row { IfSome result (IsRowOf from.now to.now) }
 {
     if from.is_same(to) {
         return Some(Row::Same);
     }
-    match pair_row(from, to) {
+    match temporal_row(from, to) {
         Some(row) => Some(row),
         None => word_row(from, to),
     }

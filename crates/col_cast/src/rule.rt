@@ -3,10 +3,9 @@
 ghost use Rattle.std.specs.Prelude.{◌≡◌, false, true, IfSome};
 ghost use Rattle.col_types.specs.DataType.{is_bad_target, is_column_type, is_nested};
 ghost use Rattle.col_types.specs.declared.cast_options.CastOptions.TheVariants.{NonStrict};
-ghost use Rattle.col_model.specs.CastTable.{resolved_target};
+ghost use Rattle.col_model.specs.CastTable.{is_boolean, resolved_target};
 ghost use Rattle.col_cast.specs.Casts.{IsListed, is_plain, is_wrapping, kept_in, rule_in, ruled};
 ghost use Rattle.col_cast.specs.Casts.{word_of};
-ghost use Rattle.col_cast.specs.WordCasts.{is_boolean};
 ghost use Rattle.col_cast.specs.Rows.{IsRowOf, formula_of, rule_of};
 
 use crate::row::{Row, TickRow, row_of};

@@ -6,7 +6,7 @@ ghost use Rattle.std.specs.Int.{w8, w64};
 ghost use Rattle.col_types.specs.PolarsError.{GivesBy};
 ghost use Rattle.col_types.specs.declared.cast_options.CastOptions.TheVariants.{NonStrict};
 ghost use Rattle.col_model.specs.Arithmetic.{Unsigned};
-ghost use Rattle.col_model.specs.CastTable.{narrowed};
+ghost use Rattle.col_model.specs.CastTable.{in_word, narrowed};
 ghost use Rattle.col_model.specs.ColumnCalls.{first_lost};
 ghost use Rattle.col_model.specs.Formula.{NonZero, X, slot_by, value_of};
 ghost use Rattle.col_model.specs.Words.{is_word_slot, word_dtype};
@@ -14,7 +14,6 @@ ghost use Rattle.col_logical.specs.Logical.{is_time};
 ghost use Rattle.col_rule.specs.Columns.{mapped_chunks};
 ghost use Rattle.col_cast.specs.Casts.{word_of};
 ghost use Rattle.col_cast.specs.Passed.{made_array, made_lost, made_word};
-ghost use Rattle.col_cast.specs.WordCasts.{in_word};
 
 use crate::cast_word::{CastWord, Made};
 use crate::word_rules::{InTheDay, Narrowing, TruthOf};

@@ -1,11 +1,12 @@
 -- Each rule of the tables gives values of its answer's type.
 use Rattle.std.proofs.Common.{◌≡◌, ℕ, ℤ, pos, ◌+ℤ◌, ◌-ℤ◌, List, Bool, true, false, Option, Some, None, if◌then◌else◌, refl, sym, ap, ◌∙◌, subst, arith}
 use Rattle.std.specs.Prelude.{unwrap_or}
+use Rattle.std.specs.Option.{option_or}
 use Rattle.std.specs.Int.{int_min, int_max}
 use Rattle.std.proofs.lemmas.Int.{ints, clamps}
 use Rattle.std.proofs.lemmas.Bool.{and_from, and_parts, false≢true}
 use Rattle.col_types.specs.DataType.{is_built, same_type, same_zone}
-use Rattle.col_types.specs.declared.data_type.DataType.{DataType, Date, Datetime, Duration, Time}
+use Rattle.col_types.specs.declared.data_type.DataType.{DataType, Date, Datetime, Duration, Time, Int64}
 use Rattle.col_types.specs.declared.time_unit.TimeUnit.{TimeUnit}
 use Rattle.col_types.specs.declared.time_unit.TimeUnit.TheVariants.{Nanoseconds, Microseconds, Milliseconds}
 use Rattle.col_types.specs.declared.cast_options.CastOptions.{CastOptions}
@@ -21,7 +22,7 @@ use Rattle.col_model.specs.Formula.{Formula, X, spanned}
 use Rattle.col_model.specs.IntervalRoom.{only}
 use Rattle.col_model.specs.CastTable.{CastRule, cast_rule, rising}
 use Rattle.col_model.specs.UnitChange.{datetime_in_unit}
-use Rattle.col_model.specs.OperatorTable.{OperatorRule, listed_rule, sum_rule, difference_rule, rest_rule}
+use Rattle.col_model.specs.OperatorTable.{OperatorRule, listed_rule, temporal_rule, number_rule, sum_rule, difference_rule, product_rule, quotient_rule, rest_rule}
 use Rattle.col_model.specs.ScalarTable.{scalar_right_rule, scalar_left_rule, is_scalar_of, unit_change_rule}
 use Rattle.col_model.specs.RuleLaws.{is_value_of, GivesValues, CastsGiveValues, RuleGivesValues, OperatorsGiveValues, RightScalarsGiveValues, LeftScalarsGiveValues, UnitChangesGiveValues}
 use Rattle.col_model.proofs.WithinLemmas.{IsWithin, is_within-true, within_from, inside_from}
@@ -29,20 +30,21 @@ use Rattle.col_model.proofs.ReachLemmas.{reach, rest_reach, reached}
 
 -- ---- types of which columns exist
 
-pub by_built : (P : DataType → Type 0) → P Date → ((u : TimeUnit) (z : Option (List ℕ)) → P (Datetime u z)) → ((u : TimeUnit) → P (Duration u)) → P Time
+pub by_built : (P : DataType → Type 0) → P Date → ((u : TimeUnit) (z : Option (List ℕ)) → P (Datetime u z)) → ((u : TimeUnit) → P (Duration u)) → P Time → P Int64
     → (d : DataType) → is_built d ≡ true → P d
-by_built P date moment length time Date h = date
-by_built P date moment length time (Datetime u z) h = moment u z
-by_built P date moment length time (Duration u) h = length u
-by_built P date moment length time Time h = time
-by_built P date moment length time _ h = absurd (false≢true h)
+by_built P date moment length time int64 Date h = date
+by_built P date moment length time int64 (Datetime u z) h = moment u z
+by_built P date moment length time int64 (Duration u) h = length u
+by_built P date moment length time int64 Time h = time
+by_built P date moment length time int64 Int64 h = int64
+by_built P date moment length time int64 _ h = absurd (false≢true h)
 
 -- the values of such a type
 abbrev type_values : DataType → Interval
 type_values d = unwrap_or (values_of d) (only (pos 0))
 
 values_are : (d : DataType) → is_built d ≡ true → values_of d ≡ Some (type_values d)
-values_are = by_built (λ d. values_of d ≡ Some (type_values d)) refl (λ u z. refl) (λ u. refl) refl
+values_are = by_built (λ d. values_of d ≡ Some (type_values d)) refl (λ u z. refl) (λ u. refl) refl refl
 
 value_within : (d : DataType) (x : ℤ) → is_built d ≡ true → is_value_of d x ≡ true → IsWithin (type_values d) x
 value_within d x built h = within_from (type_values d) x (ap (λ o. is_value_in o (whole x)) (sym (values_are d built)) ∙ h)
@@ -117,16 +119,34 @@ time_stays o Nanoseconds y = refl
 time_stays o Microseconds y = refl
 time_stays o Milliseconds y = refl
 
+by_option : (P : CastOptions → Type 0) → P Strict → P NonStrict → P Overflowing → (o : CastOptions) → P o
+by_option P s n w Strict = s
+by_option P s n w NonStrict = n
+by_option P s n w Overflowing = w
+
+-- what a cast of any type gives as a 64-bit integer, and what such an integer gives in any type
+abbrev LeadsToInt64 : DataType → CastOptions → Type 0
+LeadsToInt64 from o = CastStays (cast_rule from Int64 o) from Int64
+
+abbrev LeadsFromInt64 : DataType → CastOptions → Type 0
+LeadsFromInt64 target o = CastStays (cast_rule Int64 target o) Int64 target
+
 cast_stays : (o : CastOptions) (from : DataType) → is_built from ≡ true → (target : DataType) → is_built target ≡ true → CastStays (cast_rule from target o) from target
 cast_stays o =
     by_built (λ from. (target : DataType) → is_built target ≡ true → CastStays (cast_rule from target o) from target)
-    (by_built (λ target. CastStays (cast_rule Date target o) Date target) refl (λ v z. refl) (λ v. tt) tt)
+    (by_built (λ target. CastStays (cast_rule Date target o) Date target) refl (λ v z. refl) (λ v. tt) tt
+    (by_option (LeadsToInt64 Date) refl refl refl o))
     (λ u y. by_built (λ target. CastStays (cast_rule (Datetime u y) target o) (Datetime u y) target)
     (day_stays u y o) (λ v z. moments_stay u v y z (same_type (Datetime u y) (Datetime v z))) (λ v. tt)
-    (time_stays o u y))
-    (λ u. by_built (λ target. CastStays (cast_rule (Duration u) target o) (Duration u) target) tt (λ v z. tt) (λ v. length_stays u v o) tt)
+    (time_stays o u y) (by_option (LeadsToInt64 (Datetime u y)) refl refl refl o))
+    (λ u. by_built (λ target. CastStays (cast_rule (Duration u) target o) (Duration u) target) tt (λ v z. tt) (λ v. length_stays u v o) tt
+    (by_option (LeadsToInt64 (Duration u)) refl refl refl o))
     (by_built (λ target. CastStays (cast_rule Time target o) Time target) tt (λ v z. tt)
-    (λ v. by_unit (λ w. CastStays (cast_rule Time (Duration w) o) Time (Duration w)) refl refl refl v) refl)
+    (λ v. by_unit (λ w. CastStays (cast_rule Time (Duration w) o) Time (Duration w)) refl refl refl v) refl
+    (by_option (LeadsToInt64 Time) refl refl refl o))
+    (by_built (λ target. CastStays (cast_rule Int64 target o) Int64 target) (by_option (LeadsFromInt64 Date) refl refl refl o)
+    (λ v z. by_option (LeadsFromInt64 (Datetime v z)) refl refl refl o) (λ v. by_option (LeadsFromInt64 (Duration v)) refl refl refl o)
+    (by_option (LeadsFromInt64 Time) refl refl refl o) refl)
 
 pub casts_give_values : CastsGiveValues
 casts_give_values from target options rule f t e =
@@ -149,10 +169,11 @@ rule_gives left right o rule l r h e =
 sum_stays : (l : DataType) → is_built l ≡ true → (r : DataType) → is_built r ≡ true → RuleStays (sum_rule l r) l r
 sum_stays =
     by_built (λ l. (r : DataType) → is_built r ≡ true → RuleStays (sum_rule l r) l r)
-    (by_built (λ r. RuleStays (sum_rule Date r) Date r) tt (λ v z. tt) (λ v. (refl, refl)) tt)
-    (λ u y. by_built (λ r. RuleStays (sum_rule (Datetime u y) r) (Datetime u y) r) tt (λ v z. tt) (λ v. (refl, refl)) tt)
-    (λ u. by_built (λ r. RuleStays (sum_rule (Duration u) r) (Duration u) r) (refl, refl) (λ v z. (refl, refl)) (λ v. (refl, refl)) tt)
-    (by_built (λ r. RuleStays (sum_rule Time r) Time r) tt (λ v z. tt) (λ v. tt) tt)
+    (by_built (λ r. RuleStays (sum_rule Date r) Date r) tt (λ v z. tt) (λ v. (refl, refl)) tt tt)
+    (λ u y. by_built (λ r. RuleStays (sum_rule (Datetime u y) r) (Datetime u y) r) tt (λ v z. tt) (λ v. (refl, refl)) tt tt)
+    (λ u. by_built (λ r. RuleStays (sum_rule (Duration u) r) (Duration u) r) (refl, refl) (λ v z. (refl, refl)) (λ v. (refl, refl)) tt tt)
+    (by_built (λ r. RuleStays (sum_rule Time r) Time r) tt (λ v z. tt) (λ v. tt) tt tt)
+    (by_built (λ r. RuleStays (sum_rule Int64 r) Int64 r) tt (λ v z. tt) (λ v. tt) tt tt)
 
 if_stays : (c : Bool) (o : Option OperatorRule) (l r : DataType) → RuleStays o l r → RuleStays (if c then o else None) l r
 if_stays true o l r h = h
@@ -165,11 +186,30 @@ dates_apart_stay = (refl, refl)
 difference_stays : (l : DataType) → is_built l ≡ true → (r : DataType) → is_built r ≡ true → RuleStays (difference_rule l r) l r
 difference_stays =
     by_built (λ l. (r : DataType) → is_built r ≡ true → RuleStays (difference_rule l r) l r)
-    (by_built (λ r. RuleStays (difference_rule Date r) Date r) dates_apart_stay (λ v z. (refl, refl)) (λ v. (refl, refl)) tt)
+    (by_built (λ r. RuleStays (difference_rule Date r) Date r) dates_apart_stay (λ v z. (refl, refl)) (λ v. (refl, refl)) tt tt)
     (λ u y. by_built (λ r. RuleStays (difference_rule (Datetime u y) r) (Datetime u y) r) (refl, refl)
-    (λ v z. if_stays (same_zone y z) _ (Datetime u y) (Datetime v z) (refl, refl)) (λ v. (refl, refl)) tt)
-    (λ u. by_built (λ r. RuleStays (difference_rule (Duration u) r) (Duration u) r) tt (λ v z. tt) (λ v. (refl, refl)) tt)
-    (by_built (λ r. RuleStays (difference_rule Time r) Time r) tt (λ v z. tt) (λ v. tt) (refl, refl))
+    (λ v z. if_stays (same_zone y z) _ (Datetime u y) (Datetime v z) (refl, refl)) (λ v. (refl, refl)) tt tt)
+    (λ u. by_built (λ r. RuleStays (difference_rule (Duration u) r) (Duration u) r) tt (λ v z. tt) (λ v. (refl, refl)) tt tt)
+    (by_built (λ r. RuleStays (difference_rule Time r) Time r) tt (λ v z. tt) (λ v. tt) (refl, refl) tt)
+    (by_built (λ r. RuleStays (difference_rule Int64 r) Int64 r) tt (λ v z. tt) (λ v. tt) tt tt)
+
+product_stays : (l : DataType) → is_built l ≡ true → (r : DataType) → is_built r ≡ true → RuleStays (product_rule l r) l r
+product_stays =
+    by_built (λ l. (r : DataType) → is_built r ≡ true → RuleStays (product_rule l r) l r)
+    (by_built (λ r. RuleStays (product_rule Date r) Date r) tt (λ v z. tt) (λ v. tt) tt tt)
+    (λ u y. by_built (λ r. RuleStays (product_rule (Datetime u y) r) (Datetime u y) r) tt (λ v z. tt) (λ v. tt) tt tt)
+    (λ u. by_built (λ r. RuleStays (product_rule (Duration u) r) (Duration u) r) tt (λ v z. tt) (λ v. tt) tt (refl, refl))
+    (by_built (λ r. RuleStays (product_rule Time r) Time r) tt (λ v z. tt) (λ v. tt) tt tt)
+    (by_built (λ r. RuleStays (product_rule Int64 r) Int64 r) tt (λ v z. tt) (λ v. (refl, refl)) tt tt)
+
+quotient_stays : (l : DataType) → is_built l ≡ true → (r : DataType) → is_built r ≡ true → RuleStays (quotient_rule l r) l r
+quotient_stays =
+    by_built (λ l. (r : DataType) → is_built r ≡ true → RuleStays (quotient_rule l r) l r)
+    (by_built (λ r. RuleStays (quotient_rule Date r) Date r) tt (λ v z. tt) (λ v. tt) tt tt)
+    (λ u y. by_built (λ r. RuleStays (quotient_rule (Datetime u y) r) (Datetime u y) r) tt (λ v z. tt) (λ v. tt) tt tt)
+    (λ u. by_built (λ r. RuleStays (quotient_rule (Duration u) r) (Duration u) r) tt (λ v z. tt) (λ v. tt) tt (refl, refl))
+    (by_built (λ r. RuleStays (quotient_rule Time r) Time r) tt (λ v z. tt) (λ v. tt) tt tt)
+    (by_built (λ r. RuleStays (quotient_rule Int64 r) Int64 r) tt (λ v z. tt) (λ v. tt) tt tt)
 
 rests_stay : (u v : TimeUnit) → RuleStays (rest_rule (Duration u) (Duration v)) (Duration u) (Duration v)
 rests_stay Nanoseconds Nanoseconds = (refl, refl)
@@ -185,17 +225,42 @@ rests_stay Milliseconds Milliseconds = (refl, refl)
 rest_stays : (l : DataType) → is_built l ≡ true → (r : DataType) → is_built r ≡ true → RuleStays (rest_rule l r) l r
 rest_stays =
     by_built (λ l. (r : DataType) → is_built r ≡ true → RuleStays (rest_rule l r) l r)
-    (by_built (λ r. RuleStays (rest_rule Date r) Date r) tt (λ v z. tt) (λ v. tt) tt)
-    (λ u y. by_built (λ r. RuleStays (rest_rule (Datetime u y) r) (Datetime u y) r) tt (λ v z. tt) (λ v. tt) tt)
-    (λ u. by_built (λ r. RuleStays (rest_rule (Duration u) r) (Duration u) r) tt (λ v z. tt) (λ v. rests_stay u v) tt)
-    (by_built (λ r. RuleStays (rest_rule Time r) Time r) tt (λ v z. tt) (λ v. tt) tt)
+    (by_built (λ r. RuleStays (rest_rule Date r) Date r) tt (λ v z. tt) (λ v. tt) tt tt)
+    (λ u y. by_built (λ r. RuleStays (rest_rule (Datetime u y) r) (Datetime u y) r) tt (λ v z. tt) (λ v. tt) tt tt)
+    (λ u. by_built (λ r. RuleStays (rest_rule (Duration u) r) (Duration u) r) tt (λ v z. tt) (λ v. rests_stay u v) tt tt)
+    (by_built (λ r. RuleStays (rest_rule Time r) Time r) tt (λ v z. tt) (λ v. tt) tt tt)
+    (by_built (λ r. RuleStays (rest_rule Int64 r) Int64 r) tt (λ v z. tt) (λ v. tt) tt tt)
+
+temporal_stays : (op : BinOp) (l r : DataType) → is_built l ≡ true → is_built r ≡ true → RuleStays (temporal_rule op l r) l r
+temporal_stays ops.Add l r a b = sum_stays l a r b
+temporal_stays ops.Sub l r a b = difference_stays l a r b
+temporal_stays ops.Mul l r a b = product_stays l a r b
+temporal_stays ops.Div l r a b = quotient_stays l a r b
+temporal_stays ops.Rem l r a b = rest_stays l a r b
+
+integers_stay : (op : BinOp) → RuleStays (number_rule op Int64 Int64) Int64 Int64
+integers_stay ops.Add = (refl, refl)
+integers_stay ops.Sub = (refl, refl)
+integers_stay ops.Mul = (refl, refl)
+integers_stay ops.Div = (refl, refl)
+integers_stay ops.Rem = (refl, refl)
+
+number_stays : (op : BinOp) (l : DataType) → is_built l ≡ true → (r : DataType) → is_built r ≡ true → RuleStays (number_rule op l r) l r
+number_stays op =
+    by_built (λ l. (r : DataType) → is_built r ≡ true → RuleStays (number_rule op l r) l r)
+    (by_built (λ r. RuleStays (number_rule op Date r) Date r) tt (λ v z. tt) (λ v. tt) tt tt)
+    (λ u y. by_built (λ r. RuleStays (number_rule op (Datetime u y) r) (Datetime u y) r) tt (λ v z. tt) (λ v. tt) tt tt)
+    (λ u. by_built (λ r. RuleStays (number_rule op (Duration u) r) (Duration u) r) tt (λ v z. tt) (λ v. tt) tt tt)
+    (by_built (λ r. RuleStays (number_rule op Time r) Time r) tt (λ v z. tt) (λ v. tt) tt tt)
+    (by_built (λ r. RuleStays (number_rule op Int64 r) Int64 r) tt (λ v z. tt) (λ v. tt) tt (integers_stay op))
+
+or_stays : (o p : Option OperatorRule) (l r : DataType) → RuleStays o l r → RuleStays p l r → RuleStays (option_or o p) l r
+or_stays None p l r a b = b
+or_stays (Some rule) p l r a b = a
 
 listed_stays : (op : BinOp) (l r : DataType) → is_built l ≡ true → is_built r ≡ true → RuleStays (listed_rule op l r) l r
-listed_stays ops.Add l r a b = sum_stays l a r b
-listed_stays ops.Sub l r a b = difference_stays l a r b
-listed_stays ops.Mul l r a b = tt
-listed_stays ops.Div l r a b = tt
-listed_stays ops.Rem l r a b = rest_stays l a r b
+listed_stays op l r a b =
+    or_stays (temporal_rule op l r) (number_rule op l r) l r (temporal_stays op l r a b) (number_stays op l a r b)
 
 pub operators_give_values : OperatorsGiveValues
 operators_give_values op left right rule l r e =
@@ -217,15 +282,16 @@ abbrev RightStays : ScalarOp → ℤ → DataType → Type 0
 RightStays op k d = is_scalar_of d k ≡ true → RuleStays (scalar_right_rule d op k) d d
 
 right_stays : (op : ScalarOp) (k : ℤ) (d : DataType) → is_built d ≡ true → RightStays op k d
-right_stays scalar_ops.Add k = by_built (RightStays scalar_ops.Add k) (λ h. (refl, refl)) (λ u z h. (refl, refl)) (λ u h. (refl, refl)) (λ h. (refl, refl))
-right_stays scalar_ops.Sub k = by_built (RightStays scalar_ops.Sub k) (λ h. (refl, refl)) (λ u z h. (refl, refl)) (λ u h. (refl, refl)) (λ h. (refl, refl))
-right_stays scalar_ops.Mul k = by_built (RightStays scalar_ops.Mul k) (λ h. (refl, refl)) (λ u z h. (refl, refl)) (λ u h. (refl, refl)) (λ h. (refl, refl))
-right_stays scalar_ops.Div k = by_built (RightStays scalar_ops.Div k) (λ h. (refl, refl)) (λ u z h. (refl, refl)) (λ u h. (refl, refl)) (λ h. (refl, refl))
-right_stays scalar_ops.TruncDiv k = by_built (RightStays scalar_ops.TruncDiv k) (λ h. (refl, refl)) (λ u z h. (refl, refl)) (λ u h. (refl, refl)) (λ h. (refl, refl))
+right_stays scalar_ops.Add k = by_built (RightStays scalar_ops.Add k) (λ h. (refl, refl)) (λ u z h. (refl, refl)) (λ u h. (refl, refl)) (λ h. (refl, refl)) (λ h. (refl, refl))
+right_stays scalar_ops.Sub k = by_built (RightStays scalar_ops.Sub k) (λ h. (refl, refl)) (λ u z h. (refl, refl)) (λ u h. (refl, refl)) (λ h. (refl, refl)) (λ h. (refl, refl))
+right_stays scalar_ops.Mul k = by_built (RightStays scalar_ops.Mul k) (λ h. (refl, refl)) (λ u z h. (refl, refl)) (λ u h. (refl, refl)) (λ h. (refl, refl)) (λ h. (refl, refl))
+right_stays scalar_ops.Div k = by_built (RightStays scalar_ops.Div k) (λ h. (refl, refl)) (λ u z h. (refl, refl)) (λ u h. (refl, refl)) (λ h. (refl, refl)) (λ h. (refl, refl))
+right_stays scalar_ops.TruncDiv k = by_built (RightStays scalar_ops.TruncDiv k) (λ h. (refl, refl)) (λ u z h. (refl, refl)) (λ u h. (refl, refl)) (λ h. (refl, refl)) (λ h. (refl, refl))
 right_stays scalar_ops.Rem k =
     by_built (RightStays scalar_ops.Rem k) (λ h. (refl, rest_of_scalar (type_values Date) k refl h))
     (λ u z h. (refl, rest_of_scalar (type_values (Datetime u z)) k refl h))
     (λ u h. (refl, rest_of_scalar (type_values (Duration u)) k refl h)) (λ h. (refl, refl))
+    (λ h. (refl, rest_of_scalar (type_values Int64) k refl h))
 
 pub right_scalars_give_values : RightScalarsGiveValues
 right_scalars_give_values dtype op k rule d h e =
@@ -235,11 +301,11 @@ abbrev LeftStays : ℤ → BinOp → DataType → Type 0
 LeftStays k op d = RuleStays (scalar_left_rule k op d) d d
 
 left_stays : (k : ℤ) (op : BinOp) (d : DataType) → is_built d ≡ true → LeftStays k op d
-left_stays k ops.Add = by_built (LeftStays k ops.Add) (refl, refl) (λ u z. (refl, refl)) (λ u. (refl, refl)) (refl, refl)
-left_stays k ops.Sub = by_built (LeftStays k ops.Sub) (refl, refl) (λ u z. (refl, refl)) (λ u. (refl, refl)) (refl, refl)
-left_stays k ops.Mul = by_built (LeftStays k ops.Mul) (refl, refl) (λ u z. (refl, refl)) (λ u. (refl, refl)) (refl, refl)
-left_stays k ops.Div = by_built (LeftStays k ops.Div) (refl, refl) (λ u z. (refl, refl)) (λ u. (refl, refl)) (refl, refl)
-left_stays k ops.Rem = by_built (LeftStays k ops.Rem) (refl, refl) (λ u z. (refl, refl)) (λ u. (refl, refl)) (refl, refl)
+left_stays k ops.Add = by_built (LeftStays k ops.Add) (refl, refl) (λ u z. (refl, refl)) (λ u. (refl, refl)) (refl, refl) (refl, refl)
+left_stays k ops.Sub = by_built (LeftStays k ops.Sub) (refl, refl) (λ u z. (refl, refl)) (λ u. (refl, refl)) (refl, refl) (refl, refl)
+left_stays k ops.Mul = by_built (LeftStays k ops.Mul) (refl, refl) (λ u z. (refl, refl)) (λ u. (refl, refl)) (refl, refl) (refl, refl)
+left_stays k ops.Div = by_built (LeftStays k ops.Div) (refl, refl) (λ u z. (refl, refl)) (λ u. (refl, refl)) (refl, refl) (refl, refl)
+left_stays k ops.Rem = by_built (LeftStays k ops.Rem) (refl, refl) (λ u z. (refl, refl)) (λ u. (refl, refl)) (refl, refl) (refl, refl)
 
 pub left_scalars_give_values : LeftScalarsGiveValues
 left_scalars_give_values k op dtype rule d e =
@@ -264,7 +330,7 @@ length_changes v u =
     u
 
 unit_stays : (v : TimeUnit) (d : DataType) → is_built d ≡ true → RuleStays (unit_change_rule d v) d d
-unit_stays v = by_built (λ d. RuleStays (unit_change_rule d v) d d) tt (λ u y. moment_changes v u y) (λ u. length_changes v u) tt
+unit_stays v = by_built (λ d. RuleStays (unit_change_rule d v) d d) tt (λ u y. moment_changes v u y) (λ u. length_changes v u) tt tt
 
 pub unit_changes_give_values : UnitChangesGiveValues
 unit_changes_give_values dtype unit rule d e =

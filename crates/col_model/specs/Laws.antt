@@ -5,10 +5,12 @@ use Rattle.std.specs.Option.{option_map}
 use Rattle.col_types.specs.declared.time_unit.TimeUnit.TheVariants.{Nanoseconds, Microseconds}
 use Rattle.col_types.specs.declared.time_unit.TimeUnit.TheVariants.{Milliseconds}
 use Rattle.col_types.specs.declared.data_type.DataType.{DataType, Date, Datetime, Duration, Time}
+use Rattle.col_types.specs.declared.data_type.DataType.{Int8, Int32, Int64, UInt8, UInt32, UInt64}
+use Rattle.col_types.specs.declared.data_type.DataType.{Boolean}
 use Rattle.col_types.specs.declared.cast_options.CastOptions.{CastOptions}
 use Rattle.col_types.specs.declared.cast_options.CastOptions.TheVariants.{NonStrict, Overflowing}
 use Rattle.col_types.specs.declared.operator.BinOp.{BinOp}
-use Rattle.col_types.specs.declared.operator.BinOp.TheVariants.{Add, Sub, Rem}
+use Rattle.col_types.specs.declared.operator.BinOp.TheVariants.{Add, Sub, Mul, Div, Rem}
 use Rattle.col_model.specs.CastTable.{CastRule, cast_rule}
 use Rattle.col_model.specs.OperatorTable.{OperatorRule, listed_rule}
 use Rattle.col_model.specs.Arithmetic.{floor_by, trunc_by}
@@ -108,3 +110,50 @@ pub record KnownJoins : Type 0 where
       joined_at Rem (Duration Milliseconds) (Duration Milliseconds) (pos 7) (pos 0) ≡ Some None
   pub dates_apart : joined_at Sub Date Date (pos 1) (pos 2) ≡ Some (Some (negsuc 86399999))
   pub length_less_date : joined_at Sub (Duration Milliseconds) Date (pos 1) (pos 1) ≡ None
+
+-- numbers meet in their supertype and wrap there; quotients round down, by 0 they are null, and a rest
+-- has the divisor's sign; truth values have a sum alone, and a length of time meets integers in
+-- products and as a dividend
+pub record KnownNumbers : Type 0 where
+  pub sum_wraps :
+      joined_at Add Int64 Int64 (pos 9223372036854775807) (pos 1)
+      ≡ Some (Some (negsuc 9223372036854775807))
+  pub in_the_wider : joined_at Add Int8 UInt8 (negsuc 0) (pos 255) ≡ Some (Some (pos 254))
+  pub truth_counts : joined_at Sub Boolean Int8 (pos 1) (pos 2) ≡ Some (Some (negsuc 0))
+  pub truths : joined_at Add Boolean Boolean (pos 1) (pos 1) ≡ Some (Some (pos 2))
+  pub no_difference : joined_at Sub Boolean Boolean (pos 1) (pos 1) ≡ None
+  pub no_supertype : joined_at Add UInt64 Int64 (pos 1) (pos 1) ≡ None
+  pub down : joined_at Div Int64 Int64 (negsuc 6) (pos 2) ≡ Some (Some (negsuc 3))
+  pub least_turned :
+      joined_at Div Int64 Int64 (negsuc 9223372036854775807) (negsuc 0)
+      ≡ Some (Some (negsuc 9223372036854775807))
+  pub by_zero : joined_at Div Int64 Int64 (pos 7) (pos 0) ≡ Some None
+  pub rest : joined_at Rem Int64 Int64 (pos 7) (negsuc 1) ≡ Some (Some (negsuc 0))
+  pub rest_of_none : joined_at Rem UInt32 UInt32 (pos 7) (pos 0) ≡ Some None
+  pub length_times :
+      joined_at Mul (Duration Milliseconds) Int64 (pos 3) (negsuc 1) ≡ Some (Some (negsuc 5))
+  pub times_length :
+      joined_at Mul Int32 (Duration Milliseconds) (negsuc 1) (pos 3) ≡ Some (Some (negsuc 5))
+  pub past_ticks :
+      joined_at Mul (Duration Milliseconds) UInt64 (pos 0) (pos 9223372036854775808)
+      ≡ Some None
+  pub part : joined_at Div (Duration Milliseconds) Int64 (negsuc 6) (pos 2) ≡ Some (Some (negsuc 3))
+  pub no_part_of_an_integer : joined_at Div Int64 (Duration Milliseconds) (pos 6) (pos 2) ≡ None
+  pub no_sum : joined_at Add (Duration Milliseconds) Int64 (pos 1) (pos 1) ≡ None
+
+-- integers go to the words of other types, null or wrapped where these have no room, and a truth value
+-- is what isn't 0
+pub record KnownWordCasts : Type 0 where
+  pub narrowed : cast_at Int64 Int8 NonStrict (pos 128) ≡ Some None
+  pub wrapped : cast_at Int64 Int8 Overflowing (pos 128) ≡ Some (Some (negsuc 127))
+  pub unsigned : cast_at UInt64 Int64 NonStrict (pos 9223372036854775808) ≡ Some None
+  pub day : cast_at Int64 Date NonStrict (pos 2147483648) ≡ Some None
+  pub day_wrapped :
+      cast_at Int64 Date Overflowing (pos 2147483648) ≡ Some (Some (negsuc 2147483647))
+  pub time : cast_at Int64 Time NonStrict (negsuc 0) ≡ Some None
+  pub time_wrapped : cast_at Int64 Time Overflowing (pos 86400000000000) ≡ Some None
+  pub of_a_time : cast_at Time Int32 Overflowing (pos 4294967296) ≡ Some (Some (pos 0))
+  pub truth : cast_at Int64 Boolean NonStrict (negsuc 1) ≡ Some (Some (pos 1))
+  pub untruth : cast_at Int64 Boolean NonStrict (pos 0) ≡ Some (Some (pos 0))
+  pub of_a_truth : cast_at Boolean Date NonStrict (pos 1) ≡ Some (Some (pos 1))
+  pub truth_of_a_day : cast_at Date Boolean NonStrict (pos 1) ≡ None

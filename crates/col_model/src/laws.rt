@@ -3,6 +3,7 @@ ghost use Rattle.std.specs.Prelude.{ℕ, ℤ, ◌<◌};
 ghost use Rattle.col_model.specs.Laws.{RoundsDown, RoundsTowardsZero};
 ghost use Rattle.col_types.specs.declared.data_type.DataType.{Duration};
 ghost use Rattle.col_model.specs.Laws.{KnownDatetimes, KnownDurations, KnownCasts, KnownJoins};
+ghost use Rattle.col_model.specs.Laws.{KnownNumbers, KnownWordCasts};
 ghost use Rattle.col_model.specs.Arithmetic.{WordType, word_values, wrapped_value, rescaled_value};
 ghost use Rattle.col_model.specs.IntervalLaws.{DivisionsRoundDown, TruncatesDivisions};
 ghost use Rattle.col_model.specs.RuleLaws.{CastsGiveValues, OperatorsGiveValues};
@@ -49,6 +50,16 @@ pub fn known_casts()
 /// Sums, differences and rests, by hand.
 pub fn known_joins()
     ensures values { KnownJoins }
+{}
+
+/// Integers and truth values joined, and lengths of time with integers, by hand.
+pub fn known_numbers()
+    ensures values { KnownNumbers }
+{}
+
+/// Casts from and to integers and truth values, by hand.
+pub fn known_word_casts()
+    ensures values { KnownWordCasts }
 {}
 
 /// A slot that a cast to a finer unit leaves valid comes back as it was.

@@ -14,9 +14,9 @@ pub use interval::{
 pub use laws::{
     divisions_by_positive, divisions_round_down, divisions_truncate, finer_and_back,
     floor_rounds_down, intervals_hold, known_casts, known_datetimes, known_durations, known_ends,
-    known_joins, known_rescalings, known_scalars, known_unit_changes, rules_give_values,
-    same_type_comes_first, targets_settle_once, trunc_rounds_towards_zero, unit_casts_compose,
-    words_hold_values, words_keep,
+    known_joins, known_numbers, known_rescalings, known_scalars, known_unit_changes,
+    known_word_casts, rules_give_values, same_type_comes_first, targets_settle_once,
+    trunc_rounds_towards_zero, unit_casts_compose, words_hold_values, words_keep,
 };
 pub use tick_intervals::{
     date_values, day_values, finer, lengths, moments, only, tick_values, times,

@@ -63,6 +63,7 @@ is_built Date = true
 is_built (Datetime unit name) = true
 is_built (Duration unit) = true
 is_built Time = true
+is_built Int64 = true
 is_built _ = false
 
 -- Whether each valid slot is an integer: integers, booleans, temporal types and decimals.

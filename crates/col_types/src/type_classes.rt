@@ -46,7 +46,11 @@ impl DataType {
     {
         matches!(
             self,
-            DataType::Date | DataType::Datetime(_, _) | DataType::Duration(_) | DataType::Time
+            DataType::Date
+                | DataType::Datetime(_, _)
+                | DataType::Duration(_)
+                | DataType::Time
+                | DataType::Int64
         )
     }
 
