@@ -4,6 +4,8 @@
 #[cfg(test)]
 mod arith;
 #[cfg(test)]
+mod integers;
+#[cfg(test)]
 mod logical;
 #[cfg(test)]
 mod numeric;
