@@ -24,7 +24,7 @@ own_rule : (options : CastOptions) (dtype : DataType) → cast_rule dtype dtype 
 own_rule options dtype = rw (same_type-itself dtype) refl
 
 own_target : (dtype : DataType) → is_built_type dtype ≡ true → resolved_target dtype dtype ≡ dtype
-own_target = by_built_type (λ dtype. resolved_target dtype dtype ≡ dtype) refl (λ unit zone. refl) (λ unit. refl) refl
+own_target = by_built_type (λ dtype. resolved_target dtype dtype ≡ dtype) refl (λ unit zone. refl) (λ unit. refl) refl refl
 
 kept_value : (range : Option Interval) (value : Value) → is_value_in range value ≡ true → cast_slot (Some identity) (Some value) ≡ Some value
 kept_value range (Flat (Whole x)) h = refl

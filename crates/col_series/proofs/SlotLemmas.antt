@@ -33,7 +33,7 @@ fit-word dtype built word e None h = refl
 fit-word dtype built word e (Some x) h =
     by_built_type (λ d. physical_word d ≡ Some word → is_fit d (Some x) ≡ true → is_word_slot word (Some (whole x)) ≡ true)
     (λ s i. rw (← same-word (Signed w32) word s) i) (λ unit zone s i. rw (← same-word (Signed w64) word s) i) (λ unit s i. rw (← same-word (Signed w64) word s) i)
-    (λ s i. rw (← same-word (Signed w64) word s) (day-wider x i)) dtype built e h
+    (λ s i. rw (← same-word (Signed w64) word s) (day-wider x i)) (λ s i. rw (← same-word (Signed w64) word s) i) dtype built e h
 
 pub fit-words : (dtype : DataType) (word : WordType) → is_built_type dtype ≡ true → physical_word dtype ≡ Some word → (slots : List (Option ℤ)) → list_all (is_fit dtype) slots ≡ true
     → list_all (is_word_slot word) (map integer_slot slots) ≡ true

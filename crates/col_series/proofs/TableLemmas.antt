@@ -3,53 +3,39 @@ use Rattle.std.proofs.Common.{◌≡◌, ℕ, ℤ, true, false, List, [], ◌∷
 use Rattle.std.specs.List.{list_all}
 use Rattle.std.specs.Option.{option_map}
 use Rattle.std.proofs.lemmas.Bool.{and_parts, and_from}
-use Rattle.col_types.specs.declared.data_type.DataType.{DataType, Date, Datetime, Duration, Time}
+use Rattle.col_types.specs.declared.data_type.DataType.{DataType, Date, Datetime, Duration, Time, Int64}
 use Rattle.col_types.specs.declared.time_unit.TimeUnit.{TimeUnit}
 use Rattle.col_types.specs.declared.cast_options.CastOptions.{CastOptions}
 use Rattle.col_types.specs.declared.cast_options.CastOptions.TheVariants.{Strict, NonStrict}
 use Rattle.col_model.specs.Value.{Value, Flat, Nested, Whole, Bytes, on_slot, integer_slot}
 use Rattle.col_model.specs.Column.{is_built_type, is_slot_of, physical_word}
 use Rattle.col_model.specs.Formula.{Formula, X, value_of}
-use Rattle.col_model.specs.CastTable.{CastRule, cast_rule}
+use Rattle.col_model.specs.CastTable.{CastRule, cast_rule, is_boolean}
 use Rattle.col_model.specs.RuleLaws.{GivesValues}
 use Rattle.col_model.proofs.RuleLemmas.{casts_give_values}
 use Rattle.col_cast.specs.Casts.{Ruled, is_plain, kept_in, rule_in, rule_or_same, ruled, ruled_to, word_of}
-use Rattle.col_cast.specs.WordCasts.{is_boolean, table_rule}
 use Rattle.col_types.specs.DataType.{is_built}
 use Rattle.col_series.proofs.LawLemmas.{kept_slots}
 use Rattle.col_series.proofs.TypeLemmas.{by_built_type, built_settled}
 
--- the whole table is, for these types, that of days, moments, times and lengths of time
-pub built-table : (options : CastOptions) (from target : DataType) → is_built_type from ≡ true → is_built_type target ≡ true → table_rule from target options ≡ cast_rule from target options
-built-table options from target h g = by_built_type (λ f. table_rule f target options ≡ cast_rule f target options) date moment length time from h
-  where
-    date : table_rule Date target options ≡ cast_rule Date target options
-    date = by_built_type (λ t. table_rule Date t options ≡ cast_rule Date t options) refl (λ unit zone. refl) (λ unit. refl) refl target g
-
-    moment : (unit : TimeUnit) (zone : Option (List ℕ)) → table_rule (Datetime unit zone) target options ≡ cast_rule (Datetime unit zone) target options
-    moment unit zone = by_built_type (λ t. table_rule (Datetime unit zone) t options ≡ cast_rule (Datetime unit zone) t options) refl (λ other name. refl) (λ other. refl) refl target g
-
-    length : (unit : TimeUnit) → table_rule (Duration unit) target options ≡ cast_rule (Duration unit) target options
-    length unit = by_built_type (λ t. table_rule (Duration unit) t options ≡ cast_rule (Duration unit) t options) refl (λ other name. refl) (λ other. refl) refl target g
-
-    time : table_rule Time target options ≡ cast_rule Time target options
-    time = by_built_type (λ t. table_rule Time t options ≡ cast_rule Time t options) refl (λ unit zone. refl) (λ unit. refl) refl target g
-
 -- a strict cast has the formula of one that isn't
 strict-table : (from target : DataType) → is_built_type from ≡ true → is_built_type target ≡ true → cast_rule from target NonStrict ≡ cast_rule from target Strict
-strict-table from target h g = by_built_type (λ f. cast_rule f target NonStrict ≡ cast_rule f target Strict) date moment length time from h
+strict-table from target h g = by_built_type (λ f. cast_rule f target NonStrict ≡ cast_rule f target Strict) date moment length time int64 from h
   where
     date : cast_rule Date target NonStrict ≡ cast_rule Date target Strict
-    date = by_built_type (λ t. cast_rule Date t NonStrict ≡ cast_rule Date t Strict) refl (λ unit zone. refl) (λ unit. refl) refl target g
+    date = by_built_type (λ t. cast_rule Date t NonStrict ≡ cast_rule Date t Strict) refl (λ unit zone. refl) (λ unit. refl) refl refl target g
 
     moment : (unit : TimeUnit) (zone : Option (List ℕ)) → cast_rule (Datetime unit zone) target NonStrict ≡ cast_rule (Datetime unit zone) target Strict
-    moment unit zone = by_built_type (λ t. cast_rule (Datetime unit zone) t NonStrict ≡ cast_rule (Datetime unit zone) t Strict) refl (λ other name. refl) (λ other. refl) refl target g
+    moment unit zone = by_built_type (λ t. cast_rule (Datetime unit zone) t NonStrict ≡ cast_rule (Datetime unit zone) t Strict) refl (λ other name. refl) (λ other. refl) refl refl target g
 
     length : (unit : TimeUnit) → cast_rule (Duration unit) target NonStrict ≡ cast_rule (Duration unit) target Strict
-    length unit = by_built_type (λ t. cast_rule (Duration unit) t NonStrict ≡ cast_rule (Duration unit) t Strict) refl (λ other name. refl) (λ other. refl) refl target g
+    length unit = by_built_type (λ t. cast_rule (Duration unit) t NonStrict ≡ cast_rule (Duration unit) t Strict) refl (λ other name. refl) (λ other. refl) refl refl target g
 
     time : cast_rule Time target NonStrict ≡ cast_rule Time target Strict
-    time = by_built_type (λ t. cast_rule Time t NonStrict ≡ cast_rule Time t Strict) refl (λ unit zone. refl) (λ unit. refl) refl target g
+    time = by_built_type (λ t. cast_rule Time t NonStrict ≡ cast_rule Time t Strict) refl (λ unit zone. refl) (λ unit. refl) refl refl target g
+
+    int64 : cast_rule Int64 target NonStrict ≡ cast_rule Int64 target Strict
+    int64 = by_built_type (λ t. cast_rule Int64 t NonStrict ≡ cast_rule Int64 t Strict) refl (λ unit zone. refl) (λ unit. refl) refl refl target g
 
 -- ---- a rule that was chosen
 
@@ -74,7 +60,7 @@ none-listed from to options (Some r) e = cc
 
 -- it has these types
 pub chosen : (options : CastOptions) (from target : DataType) (rule : Ruled) → is_built_type target ≡ true → ruled from target options ≡ Some rule → of-types from target options ≡ rule
-chosen options from target rule g e = same-ruled from target options (table_rule from target options) rule (settled options from target (Some rule) g e)
+chosen options from target rule g e = same-ruled from target options (cast_rule from target options) rule (settled options from target (Some rule) g e)
 
 pub chosen-from : (options : CastOptions) (from target : DataType) (rule : Ruled) → is_built_type target ≡ true → ruled from target options ≡ Some rule → from ≡ rule.from
 chosen-from options from target rule g e = ap (λ (q : Ruled). q.from) (chosen options from target rule g e)
@@ -87,13 +73,13 @@ pub chosen-rule : (options : CastOptions) (from target : DataType) (rule : Ruled
     → cast_rule from target options ≡ Some (rule_in rule)
 chosen-rule options from target rule h g e =
     subst (λ (q : Ruled). cast_rule from target options ≡ Some (rule_in q)) (chosen options from target rule g e)
-    (sym (built-table options from target h g) ∙ is-listed from target options (table_rule from target options) rule (settled options from target (Some rule) g e))
+    (is-listed from target options (cast_rule from target options) rule (settled options from target (Some rule) g e))
 
 -- none was chosen where the table has none
 pub chosen-none : (options : CastOptions) (from target : DataType) → is_built_type from ≡ true → is_built_type target ≡ true → ruled from target options ≡ None
     → cast_rule from target options ≡ None
 chosen-none options from target h g e =
-    sym (built-table options from target h g) ∙ none-listed from target options (table_rule from target options) (settled options from target None g e)
+    none-listed from target options (cast_rule from target options) (settled options from target None g e)
 
 -- a strict one makes null of what is lost
 pub chosen-kept : (options : CastOptions) (from target : DataType) (rule : Ruled) → is_built_type from ≡ true → is_built_type target ≡ true → ruled from target options ≡ Some rule
@@ -101,16 +87,16 @@ pub chosen-kept : (options : CastOptions) (from target : DataType) (rule : Ruled
 chosen-kept options from target rule h g e strict =
     subst (λ (q : Ruled). kept_in q ≡ (rule_in q).formula) (chosen options from target rule g e)
     (ap (λ (t : Option CastRule). (rule_or_same t).formula)
-    (built-table NonStrict from target h g ∙ strict-table from target h g ∙ sym (built-table Strict from target h g) ∙ ap (table_rule from target) (sym strict)))
+    (strict-table from target h g ∙ ap (cast_rule from target) (sym strict)))
 
 -- ---- words
 
 -- the word of such a type is that which stores it
 pub built-word : (dtype : DataType) → is_built_type dtype ≡ true → word_of dtype ≡ physical_word dtype
-built-word = by_built_type (λ dtype. word_of dtype ≡ physical_word dtype) refl (λ unit zone. refl) (λ unit. refl) refl
+built-word = by_built_type (λ dtype. word_of dtype ≡ physical_word dtype) refl (λ unit zone. refl) (λ unit. refl) refl refl
 
 pub built-counted : (dtype : DataType) → is_built_type dtype ≡ true → is_boolean dtype ≡ false
-built-counted = by_built_type (λ dtype. is_boolean dtype ≡ false) refl (λ unit zone. refl) (λ unit. refl) refl
+built-counted = by_built_type (λ dtype. is_boolean dtype ≡ false) refl (λ unit zone. refl) (λ unit. refl) refl refl
 
 pub plain-is : (formula : Formula) → is_plain formula ≡ true → formula ≡ X
 plain-is X h = refl

@@ -4,7 +4,7 @@ use Rattle.std.specs.List.{list_all, position_from}
 use Rattle.std.specs.Int.{w32, w64}
 use Rattle.std.proofs.lemmas.Bool.{false≢true, and_parts, and_from, leb-true, le-leb}
 use Rattle.col_types.specs.DataType.{is_bad_target, is_nested, is_wildcard}
-use Rattle.col_types.specs.declared.data_type.DataType.{DataType, Int8, Int16, Int32, Int64, Int128, UInt8, UInt16, UInt32, UInt64, Boolean, String, Binary, Date, Datetime, Duration, Time, Decimal, List', Array'}
+use Rattle.col_types.specs.declared.data_type.DataType.{DataType, Int64, Date, Datetime, Duration, Time, Decimal, List', Array'}
 use Rattle.col_types.specs.declared.time_unit.TimeUnit.{TimeUnit}
 use Rattle.col_model.specs.Arithmetic.{Signed, word_values, is_within}
 use Rattle.col_model.specs.Value.{integer_slot}
@@ -14,30 +14,17 @@ use Rattle.col_model.specs.ColumnCalls.{is_unfit, is_built_target}
 use Rattle.col_series.specs.Slots.{is_fit, is_tick_slot}
 
 -- what holds of each temporal type holds of each type of which columns exist
-pub by_built_type : (P : DataType → Type 0) → P Date → ((unit : TimeUnit) (zone : Option (List ℕ)) → P (Datetime unit zone)) → ((unit : TimeUnit) → P (Duration unit)) → P Time → (dtype : DataType) → is_built_type dtype ≡ true → P dtype
-by_built_type P date moment length time Date h = date
-by_built_type P date moment length time (Datetime unit zone) h = moment unit zone
-by_built_type P date moment length time (Duration unit) h = length unit
-by_built_type P date moment length time Time h = time
-by_built_type P date moment length time Int8 h = absurd (false≢true h)
-by_built_type P date moment length time Int16 h = absurd (false≢true h)
-by_built_type P date moment length time Int32 h = absurd (false≢true h)
-by_built_type P date moment length time Int64 h = absurd (false≢true h)
-by_built_type P date moment length time Int128 h = absurd (false≢true h)
-by_built_type P date moment length time UInt8 h = absurd (false≢true h)
-by_built_type P date moment length time UInt16 h = absurd (false≢true h)
-by_built_type P date moment length time UInt32 h = absurd (false≢true h)
-by_built_type P date moment length time UInt64 h = absurd (false≢true h)
-by_built_type P date moment length time Boolean h = absurd (false≢true h)
-by_built_type P date moment length time String h = absurd (false≢true h)
-by_built_type P date moment length time Binary h = absurd (false≢true h)
-by_built_type P date moment length time (Decimal precision scale) h = absurd (false≢true h)
-by_built_type P date moment length time (List' place leaf) h = absurd (false≢true h)
-by_built_type P date moment length time (Array' place leaf width) h = absurd (false≢true h)
+pub by_built_type : (P : DataType → Type 0) → P Date → ((unit : TimeUnit) (zone : Option (List ℕ)) → P (Datetime unit zone)) → ((unit : TimeUnit) → P (Duration unit)) → P Time → P Int64 → (dtype : DataType) → is_built_type dtype ≡ true → P dtype
+by_built_type P date moment length time int64 Date h = date
+by_built_type P date moment length time int64 (Datetime unit zone) h = moment unit zone
+by_built_type P date moment length time int64 (Duration unit) h = length unit
+by_built_type P date moment length time int64 Time h = time
+by_built_type P date moment length time int64 Int64 h = int64
+by_built_type P date moment length time int64 dtype h = absurd (false≢true h)
 
 -- such a type isn't nested
 pub built_flat : (dtype : DataType) → is_built_type dtype ≡ true → is_nested dtype ≡ false
-built_flat = by_built_type (λ dtype. is_nested dtype ≡ false) refl (λ unit zone. refl) (λ unit. refl) refl
+built_flat = by_built_type (λ dtype. is_nested dtype ≡ false) refl (λ unit zone. refl) (λ unit. refl) refl refl
 
 -- a target that columns can have and that isn't bad is such a type
 pub built_target : (target : DataType) → is_built_target target ≡ true → is_bad_target target ≡ false → is_built_type target ≡ true
@@ -45,6 +32,7 @@ built_target Date h good = refl
 built_target (Datetime unit _) h good = rw good refl
 built_target (Duration unit) h good = refl
 built_target Time h good = refl
+built_target Int64 h good = refl
 built_target (Decimal precision scale) h good = absurd (false≢true (rw good at h))
 built_target (List' place leaf) h good = absurd (false≢true (rw good at h))
 built_target (Array' place leaf width) h good = absurd (false≢true (rw good at h))
@@ -60,11 +48,12 @@ built_good (Datetime unit name) h = unless (is_wildcard name) h
     unless true i = cc
 built_good (Duration unit) h = refl
 built_good Time h = refl
+built_good Int64 h = refl
 built_good dtype h = cc
 
 -- such a type leaves nothing open as a target
 pub built_settled : (from target : DataType) → is_built_type target ≡ true → resolved_target from target ≡ target
-built_settled from = by_built_type (λ t. resolved_target from t ≡ t) (date from) (λ unit zone. moment unit zone from) (λ unit. length unit from) (time from)
+built_settled from = by_built_type (λ t. resolved_target from t ≡ t) (date from) (λ unit zone. moment unit zone from) (λ unit. length unit from) (time from) (int64 from)
   where
     date : (from : DataType) → resolved_target from Date ≡ Date
     date (Decimal p s) = refl
@@ -81,6 +70,10 @@ built_settled from = by_built_type (λ t. resolved_target from t ≡ t) (date fr
     time : (from : DataType) → resolved_target from Time ≡ Time
     time (Decimal p s) = refl
     time from = refl
+
+    int64 : (from : DataType) → resolved_target from Int64 ≡ Int64
+    int64 (Decimal p s) = refl
+    int64 from = refl
 
 -- ---- words
 
@@ -103,7 +96,7 @@ day-wider (negsuc n) h = absurd (false≢true h)
 -- a slot of a type is one of 64 bits
 pub fit_tick : (dtype : DataType) → is_built_type dtype ≡ true → (slot : Option ℤ) → is_fit dtype slot ≡ true → is_tick_slot slot ≡ true
 fit_tick dtype typed None h = refl
-fit_tick dtype typed (Some x) h = by_built_type (λ t. is_fit t (Some x) ≡ true → is_tick_slot (Some x) ≡ true) (wider x) (λ unit zone i. i) (λ unit i. i) (day-wider x) dtype typed h
+fit_tick dtype typed (Some x) h = by_built_type (λ t. is_fit t (Some x) ≡ true → is_tick_slot (Some x) ≡ true) (wider x) (λ unit zone i. i) (λ unit i. i) (day-wider x) (λ i. i) dtype typed h
 
 pub fit_ticks : (dtype : DataType) → is_built_type dtype ≡ true → (slots : List (Option ℤ)) → list_all (is_fit dtype) slots ≡ true → list_all is_tick_slot slots ≡ true
 fit_ticks dtype typed [] h = refl

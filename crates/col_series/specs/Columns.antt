@@ -7,16 +7,17 @@ use Rattle.col_types.specs.declared.error.PolarsError.TheVariants.{SchemaMismatc
 use Rattle.col_model.specs.Arithmetic.{WordType, Signed}
 use Rattle.col_model.specs.Chunked.{Chunked}
 use Rattle.col_series.specs.declared.columns.Columns.{Columns}
-use Rattle.col_series.specs.declared.columns.Columns.TheVariants.{Date, Datetime, Duration, Time}
+use Rattle.col_series.specs.declared.columns.Columns.TheVariants as columns
 use Rattle.col_series.specs.declared.columns.Physical.{Physical}
 use Rattle.col_series.specs.declared.columns.Physical.TheVariants.{Int32, Int64}
 
 -- a column of one of the types, as a column
 abbrev pub shown : Columns → Chunked
-shown (Date dates) = dates
-shown (Datetime moments) = moments
-shown (Duration lengths) = lengths
-shown (Time times) = times
+shown (columns.Date dates) = dates
+shown (columns.Datetime moments) = moments
+shown (columns.Duration lengths) = lengths
+shown (columns.Time times) = times
+shown (columns.Int64 integers) = integers
 
 -- the words of a column, as a column of integers
 abbrev pub words_shown : Physical → Chunked

@@ -1,3 +1,4 @@
+pub mod Kinds
 pub mod Seen
 pub mod Slots
 pub mod Columns

@@ -1,21 +1,36 @@
 -- The rules of the tables as the code keeps them: what becomes of each tick.
 use Rattle.std.specs.Prelude.{◌≡◌, ◌<◌, ◌^◌, ◌*◌, ℕ, pos, Bool, true, false}
 use Rattle.std.specs.Prelude.{Option, Some, None}
-use Rattle.std.specs.Int.{w32}
+use Rattle.std.specs.Int.{w32, w64}
 use Rattle.col_types.specs.TimeUnit.{nanos_per_day}
 use Rattle.col_types.specs.declared.data_type.DataType.{DataType}
+use Rattle.col_types.specs.declared.cast_options.CastOptions.{CastOptions}
 use Rattle.col_model.specs.Arithmetic.{Signed}
-use Rattle.col_model.specs.Formula.{Formula, X, Constant, FloorBy, FloorMod}
+use Rattle.col_model.specs.Column.{day_values}
+use Rattle.col_model.specs.Formula.{Formula, X, Constant, FloorBy, FloorMod, Fit}
 use Rattle.col_model.specs.UnitChange as units
 use Rattle.col_model.specs.CastTable.{CastRule, narrowed}
 use Rattle.col_model.specs.OperatorTable.{OperatorRule}
 use Rattle.col_series.specs.declared.tick_rule.TickRule.{TickRule}
 use Rattle.col_series.specs.declared.tick_rule.TickRule.TheVariants as rules
+use Rattle.col_series.specs.declared.tick_rule.TickWord.{TickWord}
+use Rattle.col_series.specs.declared.tick_rule.TickWord.TheVariants as words
+
+-- an integer in a word, and what the word is read as
+abbrev pub in_tick_word : TickWord → CastOptions → Formula
+in_tick_word words.Day options = narrowed options (Signed w32) X
+in_tick_word words.Tick options = narrowed options (Signed w64) X
+in_tick_word words.Time options = Fit day_values (narrowed options (Signed w64) X)
+
+-- the rule of the cast table that leads to the word
+abbrev pub word_cast : TickWord → CastOptions → CastRule
+word_cast word options = record { formula = in_tick_word word options; monotone = true }
 
 -- the formula that a rule stands for
 abbrev pub formula_of : TickRule → Formula
 formula_of rules.Same = X
 formula_of (rules.DayStart day) = units.in_finer_unit day X
+formula_of (rules.Word word options) = in_tick_word word options
 formula_of (rules.Day day options) = narrowed options (Signed w32) (FloorBy X day)
 formula_of (rules.Time day nanos) = units.times nanos (FloorMod X (Constant (pos day)))
 formula_of (rules.Datetime change) = units.datetime_by change X
@@ -38,6 +53,7 @@ abbrev pub IsProper : TickRule → Type 0
 IsProper rules.Same = Unit {0}
 IsProper (rules.DayStart day) = IsDay day
 IsProper (rules.Day day options) = IsDay day
+IsProper (rules.Word word options) = Unit {0}
 IsProper (rules.Time day nanos) = IsWholeDay day nanos
 IsProper (rules.Datetime change) = units.IsProper change
 IsProper (rules.Duration change) = units.IsProper change

@@ -13,4 +13,5 @@ pub enum AnyValue<'a> {
     Duration(i64, TimeUnit),
     /// Nanoseconds since the day began.
     Time(i64),
+    Int64(i64),
 }

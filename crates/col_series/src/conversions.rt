@@ -4,11 +4,14 @@ ghost use Rattle.std.specs.Prelude.{◌≡◌, true, Ok};
 ghost use Rattle.col_types.specs.PolarsError.{Gives, seen_by};
 ghost use Rattle.col_model.specs.Chunked.{Chunked};
 ghost use Rattle.col_logical.specs.Logical.{is_date, is_datetime, is_duration, is_time};
+ghost use Rattle.col_logical.specs.Logical.{retyped};
 ghost use Rattle.col_series.specs.Columns.{of_kind};
+ghost use Rattle.col_series.specs.Kinds.{is_int64};
 
 use crate::columns::Columns;
 use crate::series::Series;
 use crate::{DataType, PolarsError, PolarsResult};
+use col_chunk::Int64Chunked;
 use col_logical::{DateChunked, DatetimeChunked, DurationChunked, TimeChunked};
 use std::alloc::Global;
 
@@ -54,6 +57,15 @@ impl IntoSeries for TimeChunked {
     }
 }
 
+impl IntoSeries for Int64Chunked {
+    ghost column = { λ words. words };
+
+    fn into_series(self, alloc: Global) -> PolarsResult<Series> {
+        self.known();
+        Series::from_int64(alloc, self, DataType::Int64)
+    }
+}
+
 impl Series {
     /// The column of dates. Refused where the type is another (`SchemaMismatch`).
     pub fn date(&self) -> PolarsResult<&DateChunked>
@@ -95,6 +107,16 @@ impl Series {
         }
     }
 
+    /// The column of integers of 64 bits. Refused where the type is another (`SchemaMismatch`).
+    pub fn i64(&self) -> PolarsResult<&Int64Chunked>
+        ensures column { seen_by (λ words. words.now) result ≡ of_kind is_int64 self.now }
+    {
+        match self.dtype() {
+            DataType::Int64 => Ok(self.integers()),
+            _ => Err(PolarsError::SchemaMismatch),
+        }
+    }
+
     fn dates(&self) -> &DateChunked
         requires kind { is_date self.now.column.dtype ≡ true }
         ensures column { result.now ≡ self.now }
@@ -111,6 +133,10 @@ impl Series {
             }
             Columns::Time(times) => {
                 times.known();
+                unreachable!()
+            }
+            Columns::Int64(integers) => {
+                integers.known();
                 unreachable!()
             }
         }
@@ -134,6 +160,10 @@ impl Series {
                 times.known();
                 unreachable!()
             }
+            Columns::Int64(integers) => {
+                integers.known();
+                unreachable!()
+            }
         }
     }
 
@@ -153,6 +183,10 @@ impl Series {
             Columns::Duration(lengths) => lengths,
             Columns::Time(times) => {
                 times.known();
+                unreachable!()
+            }
+            Columns::Int64(integers) => {
+                integers.known();
                 unreachable!()
             }
         }
@@ -176,6 +210,44 @@ impl Series {
                 unreachable!()
             }
             Columns::Time(times) => times,
+            Columns::Int64(integers) => {
+                integers.known();
+                unreachable!()
+            }
+        }
+    }
+
+    fn integers(&self) -> &Int64Chunked
+        requires kind { is_int64 self.now.column.dtype ≡ true }
+        ensures column { result.now ≡ self.now }
+    {
+        let words = self.int64_words();
+        words.known();
+        words
+    }
+
+    fn int64_words(&self) -> &Int64Chunked
+        requires kind { is_int64 self.now.column.dtype ≡ true }
+        ensures column { self.now ≡ retyped self.now.column.dtype result.now }
+    {
+        match self.columns() {
+            Columns::Date(dates) => {
+                dates.known();
+                unreachable!()
+            }
+            Columns::Datetime(moments) => {
+                moments.known();
+                unreachable!()
+            }
+            Columns::Duration(lengths) => {
+                lengths.known();
+                unreachable!()
+            }
+            Columns::Time(times) => {
+                times.known();
+                unreachable!()
+            }
+            Columns::Int64(integers) => integers.physical(),
         }
     }
 }

@@ -1,5 +1,5 @@
 // Where the ticks lie that a rule of the tables gives.
-ghost use Rattle.std.specs.Prelude.{◌≡◌, Some};
+ghost use Rattle.std.specs.Prelude.{◌≡◌, true, Some};
 ghost use Rattle.std.specs.Int.{w32};
 ghost use Rattle.col_model.specs.Arithmetic.{Interval as Range, Signed};
 ghost use Rattle.col_model.specs.Formula.{X, FloorBy, interval_of};
@@ -7,11 +7,15 @@ ghost use Rattle.col_model.specs.CastTable.{cast_rule, narrowed};
 ghost use Rattle.col_model.specs.ScalarTable.{unit_change_rule};
 ghost use Rattle.col_model.specs.IntervalRoom.{IsNear};
 ghost use Rattle.col_model.specs.RuleIntervals.{cast_interval, typed_interval};
-ghost use Rattle.col_series.specs.TickRule.{formula_of, IsDay, IsWholeDay, IsProper};
+ghost use Rattle.col_types.specs.DataType.{is_built};
+ghost use Rattle.col_series.specs.TickRule.{formula_of, in_tick_word, IsDay, IsWholeDay, IsProper};
 
-use crate::tick_rule::{TickRule, cast_rule, unit_change_rule};
+use crate::tick_rule::{TickRule, TickWord, cast_rule, unit_change_rule};
 use crate::{CastOptions, DataType, TimeUnit};
-use col_model::{Interval, date_values, finer, floor_by, inside, lengths, moments, times};
+use col_model::{
+    Interval, date_values, day_values, finer, floor_by, inside, lengths, moments, tick_values,
+    times,
+};
 
 /// The days of moments.
 fn days_of(p: Interval, day: u64, options: CastOptions) -> Option<Interval>
@@ -23,6 +27,22 @@ fn days_of(p: Interval, day: u64, options: CastOptions) -> Option<Interval>
         CastOptions::Strict | CastOptions::NonStrict | CastOptions::Overflowing => {
             inside(date_values(), days)
         }
+    }
+}
+
+/// The integers that are a word's, none where one of them isn't. Where they all are, nothing wraps.
+fn words_of(p: Interval, word: TickWord, options: CastOptions) -> Option<Interval>
+    ensures words { result ≡ interval_of (in_tick_word word options) p p }
+{
+    match options {
+        CastOptions::Strict | CastOptions::NonStrict | CastOptions::Overflowing => match word {
+            TickWord::Day => inside(date_values(), p),
+            TickWord::Tick => inside(tick_values(), p),
+            TickWord::Time => match inside(tick_values(), p) {
+                Some(p) => inside(day_values(), p),
+                None => None,
+            },
+        },
     }
 }
 
@@ -47,6 +67,7 @@ fn rule_interval(rule: TickRule, p: Interval) -> Option<Interval>
         TickRule::Same => Some(p),
         TickRule::DayStart(day) => finer(p, day),
         TickRule::Day(day, options) => days_of(p, day, options),
+        TickRule::Word(word, options) => words_of(p, word, options),
         TickRule::Time(day, nanos) => Some(times_of(day, nanos)),
         TickRule::Datetime(change) => moments(p, change),
         TickRule::Duration(change) => lengths(p, change),
@@ -63,6 +84,8 @@ pub fn cast_interval(
     options: CastOptions,
     p: Interval,
 ) -> Option<Interval>
+    requires from { is_built from.now ≡ true }
+    requires target { is_built target.now ≡ true }
     requires near { IsNear 63 p }
     ensures interval { result ≡ cast_interval (cast_rule from.now target.now options) p }
 {

@@ -65,6 +65,7 @@ fn value_of<'a>(dtype: &'a DataType, slot: Option<i64>) -> AnyValue<'a>
         }
         (DataType::Duration(unit), Some(tick)) => AnyValue::Duration(tick, *unit),
         (DataType::Time, Some(nanos)) => AnyValue::Time(nanos),
+        (DataType::Int64, Some(value)) => AnyValue::Int64(value),
         _ => AnyValue::Null,
     }
 }

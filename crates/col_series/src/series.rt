@@ -139,6 +139,7 @@ impl Series {
             DataType::Datetime(_, _) => Columns::Datetime(Logical::new_logical(words, dtype)),
             DataType::Duration(_) => Columns::Duration(Logical::new_logical(words, dtype)),
             DataType::Time => Columns::Time(Logical::new_logical(words, dtype)),
+            DataType::Int64 => Columns::Int64(Logical::new_logical(words, dtype)),
             _ => unreachable!(),
         };
         Series::new(alloc, columns)
@@ -153,6 +154,7 @@ impl Series {
             Columns::Datetime(moments) => moments.name(),
             Columns::Duration(lengths) => lengths.name(),
             Columns::Time(times) => times.name(),
+            Columns::Int64(integers) => integers.name(),
         }
     }
 
@@ -165,6 +167,7 @@ impl Series {
             Columns::Datetime(moments) => moments.dtype(),
             Columns::Duration(lengths) => lengths.dtype(),
             Columns::Time(times) => times.dtype(),
+            Columns::Int64(integers) => integers.dtype(),
         }
     }
 
@@ -177,6 +180,7 @@ impl Series {
             Columns::Datetime(moments) => moments.len(),
             Columns::Duration(lengths) => lengths.len(),
             Columns::Time(times) => times.len(),
+            Columns::Int64(integers) => integers.len(),
         }
     }
 
@@ -189,6 +193,7 @@ impl Series {
             Columns::Datetime(moments) => moments.null_count(),
             Columns::Duration(lengths) => lengths.null_count(),
             Columns::Time(times) => times.null_count(),
+            Columns::Int64(integers) => integers.null_count(),
         }
     }
 
@@ -201,6 +206,7 @@ impl Series {
             Columns::Datetime(moments) => moments.n_chunks(),
             Columns::Duration(lengths) => lengths.n_chunks(),
             Columns::Time(times) => times.n_chunks(),
+            Columns::Int64(integers) => integers.n_chunks(),
         }
     }
 
@@ -215,6 +221,7 @@ impl Series {
             Columns::Datetime(moments) => moments.known(),
             Columns::Duration(lengths) => lengths.known(),
             Columns::Time(times) => times.known(),
+            Columns::Int64(integers) => integers.known(),
         }
     }
 
@@ -239,6 +246,10 @@ impl Series {
             Columns::Time(times) => {
                 times.known();
                 Physical::Int64(times.physical())
+            }
+            Columns::Int64(integers) => {
+                integers.known();
+                Physical::Int64(integers.physical())
             }
         }
     }
@@ -298,6 +309,10 @@ impl Series {
                 times.known();
                 Err(without_unit(times.dtype()))
             }
+            Columns::Int64(integers) => {
+                integers.known();
+                Err(without_unit(integers.dtype()))
+            }
         }
     }
 
@@ -329,7 +344,9 @@ pub(crate) fn is_in_32_bits(dtype: &DataType) -> bool
 {
     match dtype {
         DataType::Date => true,
-        DataType::Datetime(_, _) | DataType::Duration(_) | DataType::Time => false,
+        DataType::Datetime(_, _) | DataType::Duration(_) | DataType::Time | DataType::Int64 => {
+            false
+        }
         _ => unreachable!(),
     }
 }

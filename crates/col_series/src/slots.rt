@@ -50,7 +50,9 @@ fn is_unfit(dtype: &DataType, slot: Option<i128>) -> bool
         (_, None) => false,
         (DataType::Date, Some(value)) => !is_day(value),
         (DataType::Time, Some(value)) => !is_time(value),
-        (DataType::Datetime(_, _) | DataType::Duration(_), Some(value)) => !is_tick(value),
+        (DataType::Datetime(_, _) | DataType::Duration(_) | DataType::Int64, Some(value)) => {
+            !is_tick(value)
+        }
         _ => unreachable!(),
     }
 }

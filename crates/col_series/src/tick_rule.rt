@@ -1,13 +1,15 @@
 //! The rules of the cast table and of the table of units, chosen by types.
 
-ghost use Rattle.std.specs.Prelude.{◌≡◌, IfSome};
+ghost use Rattle.std.specs.Prelude.{◌≡◌, true, IfSome, Some};
 ghost use Rattle.std.specs.Option.{option_map};
 ghost use Rattle.col_types.specs.TimeUnit.{ticks_per_day, nanos_per_tick};
-ghost use Rattle.col_model.specs.CastTable.{cast_rule, pair_rule};
+ghost use Rattle.col_types.specs.DataType.{is_built};
+ghost use Rattle.col_types.specs.declared.cast_options.CastOptions.{CastOptions};
+ghost use Rattle.col_model.specs.CastTable.{cast_rule, pair_rule, temporal_rule, to_word, word_rule};
 ghost use Rattle.col_model.specs.ScalarTable.{unit_change_rule};
-ghost use Rattle.col_series.specs.TickRule.{cast_rule_of, unit_rule_of, IsDay, IsProper};
+ghost use Rattle.col_series.specs.TickRule.{cast_rule_of, unit_rule_of, word_cast, IsDay, IsProper};
 
-use crate::{CastOptions, DataType, TimeUnit};
+use crate::{CastOptions as Options, DataType, TimeUnit};
 use col_model::{UnitChange, ticks_per_day as day_in_ticks, unit_change};
 
 /// A rule of the cast table or of the table of units: what becomes of each tick.
@@ -17,9 +19,11 @@ pub(crate) enum TickRule {
     /// The moment at which a day begins, which has so many ticks.
     DayStart(u64),
     /// The day of a moment, which has so many ticks.
-    Day(u64, CastOptions),
+    Day(u64, Options),
     /// The time of a moment: the ticks of a day, and the nanoseconds of a tick.
     Time(u64, u32),
+    /// An integer, or days or ticks, in another word.
+    Word(TickWord, Options),
     /// A moment in another unit.
     Datetime(UnitChange),
     /// A length of time in another unit.
@@ -28,6 +32,17 @@ pub(crate) enum TickRule {
     WrappedDatetime(UnitChange),
     /// A length of time in another unit, wrapped.
     WrappedDuration(UnitChange),
+}
+
+/// What a word is read as.
+#[derive(Clone, Copy)]
+pub(crate) enum TickWord {
+    /// A day, in 32 bits.
+    Day,
+    /// A tick or an integer, in 64 bits.
+    Tick,
+    /// A time of the day, in 64 bits.
+    Time,
 }
 
 fn ticks_per_day(unit: TimeUnit) -> u64
@@ -45,9 +60,50 @@ fn time_rule(unit: TimeUnit) -> TickRule
     TickRule::Time(ticks_per_day(unit), unit.nanos_per_tick())
 }
 
+/// The word in which a type is kept, and what it is read as.
+fn word_of(dtype: &DataType) -> TickWord
+    requires built { is_built dtype.now ≡ true }
+    ensures word { (options : CastOptions) → Some (word_cast result options)
+        ≡ to_word dtype.now options }
+{
+    match dtype {
+        DataType::Date => TickWord::Day,
+        DataType::Time => TickWord::Time,
+        DataType::Datetime(_, _) | DataType::Duration(_) | DataType::Int64 => TickWord::Tick,
+        _ => unreachable!(),
+    }
+}
+
+/// The rule from or to integers for types that differ, or none.
+fn word_rule(from: &DataType, target: &DataType, options: Options) -> Option<TickRule>
+    requires from { is_built from.now ≡ true }
+    requires target { is_built target.now ≡ true }
+    ensures rule { cast_rule_of result ≡ word_rule from.now target.now options }
+    ensures proper { IfSome result IsProper }
+{
+    if from.is_integer() || target.is_integer() {
+        Some(TickRule::Word(word_of(target), options))
+    } else {
+        None
+    }
+}
+
 /// The rule for a pair of types that differ, or none.
-fn pair_rule(from: &DataType, target: &DataType, options: CastOptions) -> Option<TickRule>
+fn pair_rule(from: &DataType, target: &DataType, options: Options) -> Option<TickRule>
+    requires from { is_built from.now ≡ true }
+    requires target { is_built target.now ≡ true }
     ensures rule { cast_rule_of result ≡ pair_rule from.now target.now options }
+    ensures proper { IfSome result IsProper }
+{
+    match temporal_rule(from, target, options) {
+        Some(rule) => Some(rule),
+        None => word_rule(from, target, options),
+    }
+}
+
+/// The rule for a pair of temporal types that differ, or none.
+fn temporal_rule(from: &DataType, target: &DataType, options: Options) -> Option<TickRule>
+    ensures rule { cast_rule_of result ≡ temporal_rule from.now target.now options }
     ensures proper { IfSome result IsProper }
 {
     match (from, target) {
@@ -72,11 +128,9 @@ fn pair_rule(from: &DataType, target: &DataType, options: CastOptions) -> Option
 }
 
 /// The rule from a type to a target that leaves nothing open, or none.
-pub(crate) fn cast_rule(
-    from: &DataType,
-    target: &DataType,
-    options: CastOptions,
-) -> Option<TickRule>
+pub(crate) fn cast_rule(from: &DataType, target: &DataType, options: Options) -> Option<TickRule>
+    requires from { is_built from.now ≡ true }
+    requires target { is_built target.now ≡ true }
     ensures rule { cast_rule_of result ≡ cast_rule from.now target.now options }
     ensures proper { IfSome result IsProper }
 {

@@ -1,5 +1,5 @@
 use Rattle.std.proofs.Common.{◌∙◌, ap, refl, subst, sym}
-use Rattle.std.specs.Int.{w64}
+use Rattle.std.specs.Int.{w32, w64}
 use Rattle.std.specs.Prelude.{Result}
 use Rattle.col_types.specs.PolarsError.{GivesBy}
 use Rattle.col_types.specs.declared.error.PolarsError.{PolarsError}
@@ -27,6 +27,15 @@ of_ticks-requires-clause-day g c =
 
 pub of_ticks-requires-clause-short : goal.of_ticks-requires-clause-short
 of_ticks-requires-clause-short g c = lost-few _ c.args.words.now.column.slots c.in-Ok-cast_words.changed.lost c.requires.short c.in-Ok-cast_words.ensures.lost
+
+pub returns-in-Ok : goal.returns-in-Ok
+returns-in-Ok g c = record {
+  column = subst (λ (r : Result Column PolarsError). GivesBy column_of c.of_days.result r)
+      (cast-given c.args.options (rule_in c.args.rule.now).formula (kept_in c.args.rule.now) c.args.target.now (word_dtype (Signed w32)) c.args.words.now
+      c.in-Ok.changed.array c.in-Ok.changed.lost
+      (chosen-kept c.args.options c.args.rule.now.from c.args.target.now c.args.rule.now c.requires.built_source c.requires.built_type c.requires.rule)
+      (sym (given-same _ c.in-Ok.changed.array c.in-Ok.ensures.column)) c.in-Ok.ensures.lost) c.of_days.ensures.column;
+}
 
 pub returns-in-Ok-cast_words : goal.returns-in-Ok-cast_words
 returns-in-Ok-cast_words g c = record {
