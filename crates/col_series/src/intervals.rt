@@ -7,7 +7,7 @@ ghost use Rattle.col_model.specs.CastTable.{cast_rule, narrowed};
 ghost use Rattle.col_model.specs.ScalarTable.{unit_change_rule};
 ghost use Rattle.col_model.specs.IntervalRoom.{IsNear};
 ghost use Rattle.col_model.specs.RuleIntervals.{cast_interval, typed_interval};
-ghost use Rattle.col_types.specs.DataType.{is_built};
+ghost use Rattle.col_model.specs.Column.{is_built_type};
 ghost use Rattle.col_series.specs.TickRule.{formula_of, in_tick_word, IsDay, IsWholeDay, IsProper};
 
 use crate::tick_rule::{TickRule, TickWord, cast_rule, unit_change_rule};
@@ -84,8 +84,8 @@ pub fn cast_interval(
     options: CastOptions,
     p: Interval,
 ) -> Option<Interval>
-    requires from { is_built from.now ≡ true }
-    requires target { is_built target.now ≡ true }
+    requires from { is_built_type from.now ≡ true }
+    requires target { is_built_type target.now ≡ true }
     requires near { IsNear 63 p }
     ensures interval { result ≡ cast_interval (cast_rule from.now target.now options) p }
 {

@@ -3,7 +3,7 @@
 ghost use Rattle.std.specs.Prelude.{◌≡◌, true, IfSome, Some};
 ghost use Rattle.std.specs.Option.{option_map};
 ghost use Rattle.col_types.specs.TimeUnit.{ticks_per_day, nanos_per_tick};
-ghost use Rattle.col_types.specs.DataType.{is_built};
+ghost use Rattle.col_model.specs.Column.{is_built_type};
 ghost use Rattle.col_types.specs.declared.cast_options.CastOptions.{CastOptions};
 ghost use Rattle.col_model.specs.CastTable.{cast_rule, pair_rule, temporal_rule, to_word, word_rule};
 ghost use Rattle.col_model.specs.ScalarTable.{unit_change_rule};
@@ -62,7 +62,7 @@ fn time_rule(unit: TimeUnit) -> TickRule
 
 /// The word in which a type is kept, and what it is read as.
 fn word_of(dtype: &DataType) -> TickWord
-    requires built { is_built dtype.now ≡ true }
+    requires built { is_built_type dtype.now ≡ true }
     ensures word { (options : CastOptions) → Some (word_cast result options)
         ≡ to_word dtype.now options }
 {
@@ -76,8 +76,8 @@ fn word_of(dtype: &DataType) -> TickWord
 
 /// The rule from or to integers for types that differ, or none.
 fn word_rule(from: &DataType, target: &DataType, options: Options) -> Option<TickRule>
-    requires from { is_built from.now ≡ true }
-    requires target { is_built target.now ≡ true }
+    requires from { is_built_type from.now ≡ true }
+    requires target { is_built_type target.now ≡ true }
     ensures rule { cast_rule_of result ≡ word_rule from.now target.now options }
     ensures proper { IfSome result IsProper }
 {
@@ -90,8 +90,8 @@ fn word_rule(from: &DataType, target: &DataType, options: Options) -> Option<Tic
 
 /// The rule for a pair of types that differ, or none.
 fn pair_rule(from: &DataType, target: &DataType, options: Options) -> Option<TickRule>
-    requires from { is_built from.now ≡ true }
-    requires target { is_built target.now ≡ true }
+    requires from { is_built_type from.now ≡ true }
+    requires target { is_built_type target.now ≡ true }
     ensures rule { cast_rule_of result ≡ pair_rule from.now target.now options }
     ensures proper { IfSome result IsProper }
 {
@@ -129,8 +129,8 @@ fn temporal_rule(from: &DataType, target: &DataType, options: Options) -> Option
 
 /// The rule from a type to a target that leaves nothing open, or none.
 pub(crate) fn cast_rule(from: &DataType, target: &DataType, options: Options) -> Option<TickRule>
-    requires from { is_built from.now ≡ true }
-    requires target { is_built target.now ≡ true }
+    requires from { is_built_type from.now ≡ true }
+    requires target { is_built_type target.now ≡ true }
     ensures rule { cast_rule_of result ≡ cast_rule from.now target.now options }
     ensures proper { IfSome result IsProper }
 {
