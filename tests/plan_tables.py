@@ -64,48 +64,61 @@ def table(title, *groups):
 
 def casts():
     for old in TYPES:
-        table(f"plans of casts of {text(old)}", (old, unary_columns(old)))
-        for new in TYPES:
-            if not is_listed(lambda old, new, x, y: tables.cast(old, new, False, x), old, new):
-                continue
-            for sign in ["", "!", "~"] if (old[0], new) == ("datetime", DATE) else [""]:
-                for n, column in enumerate(unary_columns(old)):
-                    span = tables.cast(old, new, sign == "~", hull(column))
-                    case(f"${n} cast{sign}:{text(new)}", [column], new, span)
+        casts_of(f"plans of casts of {text(old)}", old, TYPES)
+
+
+def casts_of(title, old, targets):
+    table(title, (old, unary_columns(old)))
+    for new in targets:
+        if not is_listed(lambda old, new, x, y: tables.cast(old, new, False, x), old, new):
+            continue
+        # What isn't a date becomes one: the options differ.
+        for sign in ["", "!", "~"] if new == DATE != old else [""]:
+            for n, column in enumerate(unary_columns(old)):
+                span = tables.cast(old, new, sign == "~", hull(column))
+                case(f"${n} cast{sign}:{text(new)}", [column], new, span)
 
 
 def operators():
     for left in TYPES:
         for right in TYPES:
-            forms = tables.OPERATORS.items()
-            forms = {op: form for op, form in forms if is_listed(form, left, right)}
-            if not forms:
-                continue
-            groups = [(left, columns(left)), (right, columns(right)), (right, DIVISORS)]
-            table(f"plans of {text(left)} with {text(right)}", *groups[: 3 if "%" in forms else 2])
-            for op, form in forms.items():
-                rights = 2 if op == "%" else 1
-                for n, inputs in enumerate(zip(columns(left), groups[rights][1])):
-                    dtype, span = form(left, right, *map(hull, inputs))
-                    case(f"${n} ${n + 3 * rights} {op}", inputs, dtype, span)
+            operators_of(left, right)
+
+
+def operators_of(left, right):
+    forms = {op: form for op, form in tables.OPERATORS.items() if is_listed(form, left, right)}
+    if not forms:
+        return
+    divided = [op for op in ("/", "%") if op in forms]
+    groups = [(left, columns(left)), (right, columns(right)), (right, DIVISORS)]
+    table(f"plans of {text(left)} with {text(right)}", *groups[: 3 if divided else 2])
+    for op, form in forms.items():
+        rights = 2 if op in divided else 1
+        for n, inputs in enumerate(zip(columns(left), groups[rights][1])):
+            dtype, span = form(left, right, *map(hull, inputs))
+            case(f"${n} ${n + 3 * rights} {op}", inputs, dtype, span)
 
 
 def scalars():
     for dtype in [DATE, TIME, tables.datetime("us", "UTC"), tables.duration("ns")]:
-        inputs = unary_columns(dtype)
-        signed = [column for column in ([2, None, 9], [-9, -2]) if dtype != TIME or column[0] > 0]
-        table(f"plans of scalars with {text(dtype)}", (dtype, inputs + signed))
-        for n, (column, k) in enumerate(zip(inputs, SCALARS)):
-            for op, form in tables.RIGHT.items():
-                scalar_case(n, f"{op}#{k}", form, dtype, k, column)
-            for op, form in tables.LEFT.items():
-                scalar_case(n, f"{k}#{op}", form, dtype, k, column)
-        for op in ["/", "%", "tdiv"]:
-            scalar_case(0, f"{op}#0", tables.RIGHT[op], dtype, 0, inputs[0])
-        for n, column in enumerate(signed, len(inputs)):
-            for op in ["/", "%"]:
-                for k in [-100, 100]:
-                    scalar_case(n, f"{k}#{op}", tables.LEFT[op], dtype, k, column)
+        scalars_of(dtype)
+
+
+def scalars_of(dtype):
+    inputs = unary_columns(dtype)
+    signed = [column for column in ([2, None, 9], [-9, -2]) if dtype != TIME or column[0] > 0]
+    table(f"plans of scalars with {text(dtype)}", (dtype, inputs + signed))
+    for n, (column, k) in enumerate(zip(inputs, SCALARS)):
+        for op, form in tables.RIGHT.items():
+            scalar_case(n, f"{op}#{k}", form, dtype, k, column)
+        for op, form in tables.LEFT.items():
+            scalar_case(n, f"{k}#{op}", form, dtype, k, column)
+    for op in ["/", "%", "tdiv"]:
+        scalar_case(0, f"{op}#0", tables.RIGHT[op], dtype, 0, inputs[0])
+    for n, column in enumerate(signed, len(inputs)):
+        for op in ["/", "%"]:
+            for k in [-100, 100]:
+                scalar_case(n, f"{k}#{op}", tables.LEFT[op], dtype, k, column)
 
 
 def scalar_case(n, token, form, dtype, k, column):

@@ -2,7 +2,7 @@
 """Prints tables of casts, operators, scalars, changes of unit and shifts with the answers wanted.
 
 Each value comes from the formulas written here, over Python's integers without bound. Nothing of
-the program is run. The tables stand in crates/col_rows/stdin, behind the rows that were worked out
+the program is run. The formulas are those of integers too, whose tables `number_tables.py` prints. The tables stand in crates/col_rows/stdin, behind the rows that were worked out
 by hand; `compare.sh` shows whether they are still these.
 """
 
@@ -16,7 +16,7 @@ I32 = (-(2**31), 2**31 - 1)
 I64 = (-(2**63), 2**63 - 1)
 DAY = (0, DAY_NANOS - 1)
 
-DATE, TIME = ("date",), ("time",)
+DATE, TIME, INTEGER = ("date",), ("time",), ("i64",)
 
 
 def datetime(unit, zone=None):
@@ -126,6 +126,9 @@ def cast(old, new, wraps, x):
     a, b = old[0], new[0]
     if old == new:
         return x
+    if INTEGER in (old, new):
+        made = (wrap if wraps else fit)(word(new), x)
+        return fit(DAY, made) if new == TIME else made
     if (a, b) == ("date", "datetime"):
         return fit(I64, x * day(new[1]))
     if (a, b) == ("datetime", "datetime"):
@@ -146,6 +149,8 @@ def cast(old, new, wraps, x):
 
 def add(left, right, x, y):
     a, b = left[0], right[0]
+    if left == right == INTEGER:
+        return INTEGER, wrap(I64, join(1, x, y))
     if (a, b) == ("date", "duration"):
         return DATE, shifted_date(1, right[1], x, y)
     if (a, b) == ("duration", "date"):
@@ -160,6 +165,8 @@ def add(left, right, x, y):
 
 def sub(left, right, x, y):
     a, b = left[0], right[0]
+    if left == right == INTEGER:
+        return INTEGER, wrap(I64, join(-1, x, y))
     if (a, b) == ("date", "date"):
         return duration("ms"), (x - y) * day("ms")
     if (a, b) == ("time", "time"):
@@ -180,14 +187,26 @@ def sub(left, right, x, y):
     raise KeyError
 
 
-def rem(left, right, x, y):
-    if (left[0], right[0]) == ("duration", "duration"):
-        unit = coarser(left[1], right[1])
-        return duration(unit), mod(moved(left, unit, x), moved(right, unit, y))
+def mul(left, right, x, y):
+    if INTEGER in (left, right):
+        dtype = right if left == INTEGER else left
+        if dtype == INTEGER or dtype[0] == "duration":
+            return dtype, wrap(I64, x * y)
     raise KeyError
 
 
-def none(left, right, x, y):
+def div(left, right, x, y):
+    if right == INTEGER and (left == INTEGER or left[0] == "duration"):
+        return left, wrap(I64, floor(x, y))
+    raise KeyError
+
+
+def rem(left, right, x, y):
+    if left == right == INTEGER:
+        return INTEGER, mod(x, y)
+    if (left[0], right[0]) == ("duration", "duration"):
+        unit = coarser(left[1], right[1])
+        return duration(unit), mod(moved(left, unit, x), moved(right, unit, y))
     raise KeyError
 
 
@@ -200,7 +219,7 @@ def shifted_date(sign, unit, x, y):
     return fit(I32, floor(moment, day("ms")))
 
 
-OPERATORS = {"+": add, "-": sub, "*": none, "/": none, "%": rem}
+OPERATORS = {"+": add, "-": sub, "*": mul, "/": div, "%": rem}
 
 # ---- scalars, in the word of the type
 
@@ -230,7 +249,7 @@ def slots(values):
     return ["null" if x is None else str(x) for x in values]
 
 
-def answer(name, dtype, column):
+def answer(dtype, column, name="a"):
     return " / ".join([f"{name} {text(dtype)} {len(column)}"] + slots(column))
 
 
@@ -256,20 +275,23 @@ def ends(dtype):
 
 def casts():
     for old in TYPES:
-        column = ends(old)
-        table(f"casts of {text(old)}", [("a", old, column)])
-        for new in TYPES:
-            for sign in ["", "!", "~"]:
-                case(f"$0 cast{sign}:{text(new)}", cast_answer(old, new, sign, column))
+        casts_of(old, ends(old), TYPES)
 
 
-def cast_answer(old, new, sign, column):
+def casts_of(old, column, targets):
+    table(f"casts of {text(old)}", [("a", old, column)])
+    for new in targets:
+        for sign in ["", "!", "~"]:
+            case(f"$0 cast{sign}:{text(new)}", cast_answer(old, new, sign, column))
+
+
+def cast_answer(old, new, sign, column, name="a"):
     try:
         made = on_slots(lambda x: cast(old, new, sign == "~", x), column)
     except KeyError:
         return "refused 1 unsupported"
     lost = [row for row, (x, y) in enumerate(zip(column, made)) if x is not None and y is None]
-    return f"refused 1 strict {lost[0]}" if sign == "!" and lost else answer("a", new, made)
+    return f"refused 1 strict {lost[0]}" if sign == "!" and lost else answer(new, made, name)
 
 
 def pairs(left, right):
@@ -282,16 +304,20 @@ def pairs(left, right):
         rows += [(1, -1), (7, -3)]
     if TIME not in (left, right):
         rows += [(-1, -1), (-7, -3)]
-    return [list(column) for column in zip(*rows)]
+    return rows
 
 
 def operators():
     for left in TYPES:
         for right in TYPES:
-            xs, ys = pairs(left, right)
-            table(f"{text(left)} with {text(right)}", [("a", left, xs), ("b", right, ys)])
-            for op, form in OPERATORS.items():
-                case(f"$0 $1 {op}", operator_answer(form, left, right, xs, ys))
+            operators_of(left, right, pairs(left, right))
+
+
+def operators_of(left, right, rows):
+    xs, ys = (list(column) for column in zip(*rows))
+    table(f"{text(left)} with {text(right)}", [("a", left, xs), ("b", right, ys)])
+    for op, form in OPERATORS.items():
+        case(f"$0 $1 {op}", operator_answer(form, left, right, xs, ys))
 
 
 def operator_answer(form, left, right, xs, ys):
@@ -300,40 +326,47 @@ def operator_answer(form, left, right, xs, ys):
     except KeyError:
         return "refused 2 unsupported"
     made = [None if None in (x, y) else form(left, right, x, y)[1] for x, y in zip(xs, ys)]
-    return answer("a", dtype, made)
+    return answer(dtype, made)
 
 
 def scalars():
     for dtype in [DATE, TIME, datetime("us", "UTC"), duration("ns")]:
-        low, high = word(dtype)
-        column = ([0, 7] if dtype == TIME else [-7, 7, low]) + [values(dtype)[1], None]
-        table(f"scalars with {text(dtype)}", [("a", dtype, column)])
-        for k in [-2, -1, 0, 1, 2, low, high, low - 1, high + 1]:
-            for op, form in RIGHT.items():
-                case(f"$0 {op}#{k}", scalar_answer(form, dtype, k, column))
-            for op, form in LEFT.items():
-                case(f"$0 {k}#{op}", scalar_answer(form, dtype, k, column))
+        column = [0, 7] if dtype == TIME else [-7, 7, word(dtype)[0]]
+        scalars_of(dtype, column + [values(dtype)[1], None])
+
+
+def scalars_of(dtype, column):
+    low, high = word(dtype)
+    table(f"scalars with {text(dtype)}", [("a", dtype, column)])
+    for k in [-2, -1, 0, 1, 2, low, high, low - 1, high + 1]:
+        for op, form in RIGHT.items():
+            case(f"$0 {op}#{k}", scalar_answer(form, dtype, k, column))
+        for op, form in LEFT.items():
+            case(f"$0 {k}#{op}", scalar_answer(form, dtype, k, column))
 
 
 def scalar_answer(form, dtype, k, column):
     if fit(word(dtype), k) is None:
         return "refused 1 scalar"
     made = on_slots(lambda x: fit(values(dtype), form(word(dtype), x, k)), column)
-    return answer("a", dtype, made)
+    return answer(dtype, made)
 
 
 def units():
     for dtype in TYPES:
         low, high = values(dtype)
-        column = [low, high, None, 0, 1999999] + ([] if dtype == TIME else [-1, -1999999])
-        table(f"units of {text(dtype)}", [("a", dtype, column)])
-        for unit in NANOS:
-            if dtype in (DATE, TIME):
-                case(f"$0 unit:{unit}", "refused 1 unsupported")
-                continue
-            new = (dtype[0], unit) + dtype[2:]
-            made = on_slots(lambda x: unit_change(dtype, unit, x), column)
-            case(f"$0 unit:{unit}", answer("a", new, made))
+        units_of(dtype, [low, high, None, 0, 1999999] + ([] if dtype == TIME else [-1, -1999999]))
+
+
+def units_of(dtype, column):
+    table(f"units of {text(dtype)}", [("a", dtype, column)])
+    for unit in NANOS:
+        if dtype[0] not in ("datetime", "duration"):
+            case(f"$0 unit:{unit}", "refused 1 unsupported")
+            continue
+        new = (dtype[0], unit) + dtype[2:]
+        made = on_slots(lambda x: unit_change(dtype, unit, x), column)
+        case(f"$0 unit:{unit}", answer(new, made))
 
 
 def shifts():
@@ -343,7 +376,7 @@ def shifts():
         for periods in [0, 1, -1, 2, -2, 3, -3, 4, -4, *I64]:
             rows = range(len(column))
             made = [column[i - periods] if i - periods in rows else None for i in rows]
-            case(f"$0 shift:{periods}", answer("a", dtype, made))
+            case(f"$0 shift:{periods}", answer(dtype, made))
 
 
 def main():

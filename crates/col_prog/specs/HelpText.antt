@@ -24,7 +24,7 @@ abbrev pub script_help : List ℕ
 script_help =
     codes "A script has any number of lines `zone NAME`, `col NAME TYPE SLOT ..` and\n" ++
     (codes "`plan NODE LOW HIGH`, and then one line `expr TOKEN ..` in postfix order. A SLOT\n" ++
-    (codes "is `null` or an integer. A TYPE is date, time, datetime[UNIT],\n" ++
+    (codes "is `null` or an integer. A TYPE is i64, date, time, datetime[UNIT],\n" ++
     (codes "datetime[UNIT,ZONE] or duration[UNIT], a UNIT ns, us or ms. A NODE is a token's\n" ++
     (codes "place from 0, LOW and HIGH are the ends of its slots' interval. A TOKEN is\n" ++
     (codes "  $N             column N, from 0\n" ++
@@ -37,8 +37,9 @@ script_help =
 -- what the program does, how it is called, and the form of a script
 abbrev pub help_text : List ℕ
 help_text =
-    codes "tizlumed answers one expression over columns of dates, times, moments and lengths.\n" ++
-    (codes "\n" ++ (usage_text ++ (codes "\n" ++ (commands_help ++ (codes "\n" ++ script_help)))))
+    codes "tizlumed answers one expression over columns of integers, dates, times, moments\n" ++
+    (codes "and lengths.\n" ++
+    (codes "\n" ++ (usage_text ++ (codes "\n" ++ (commands_help ++ (codes "\n" ++ script_help))))))
 
 -- which version the program is
 abbrev pub version_text : List ℕ

@@ -29,7 +29,8 @@ use std::alloc::{AllocError, Global};
 use std::sync::ledger::Ledger;
 
 const HELP: &str = "\
-tizlumed answers one expression over columns of dates, times, moments and lengths.\n\
+tizlumed answers one expression over columns of integers, dates, times, moments\n\
+and lengths.\n\
 \n\
 usage: tizlumed eval < SCRIPT\n\
 \x20      tizlumed fold < SCRIPT\n\
@@ -45,7 +46,7 @@ holds, and `plan` the plan that its columns give. `fold` and `autofold` answer a
 \n\
 A script has any number of lines `zone NAME`, `col NAME TYPE SLOT ..` and\n\
 `plan NODE LOW HIGH`, and then one line `expr TOKEN ..` in postfix order. A SLOT\n\
-is `null` or an integer. A TYPE is date, time, datetime[UNIT],\n\
+is `null` or an integer. A TYPE is i64, date, time, datetime[UNIT],\n\
 datetime[UNIT,ZONE] or duration[UNIT], a UNIT ns, us or ms. A NODE is a token's\n\
 place from 0, LOW and HIGH are the ends of its slots' interval. A TOKEN is\n\
 \x20 $N             column N, from 0\n\

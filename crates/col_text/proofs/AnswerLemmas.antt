@@ -4,10 +4,9 @@ use Rattle.std.specs.List.{flat_map}
 use Rattle.std.specs.Fmt.{decimal, signed_decimal}
 use Rattle.std.proofs.lemmas.List.{drop-drop, drop_at}
 use Rattle.std.proofs.lemmas.Bool.{false≢true, le-leb}
-use Rattle.col_types.specs.declared.data_type.DataType.{DataType, Int64}
+use Rattle.col_types.specs.declared.data_type.DataType.{DataType, Boolean, Int64}
 use Rattle.col_model.specs.Column.{is_built_type}
 use Rattle.col_model.specs.Value.{Value, Flat, Nested, Whole, Bytes}
-use Rattle.col_series.proofs.TypeLemmas.{by_built_type}
 use Rattle.col_text.specs.Answer.{line_of, slot_line, slot_text}
 
 -- what stands behind digits that end at a place
@@ -31,9 +30,8 @@ text_of-negative (negsuc n) e = refl
 slot_text-built : (dtype : DataType) (slot : Option Value) → is_built_type dtype ≡ true
     → slot_text Int64 slot ≡ slot_text dtype slot
 slot_text-built dtype None built = refl
-slot_text-built dtype (Some (Flat (Whole x))) built =
-    by_built_type (λ dtype. slot_text Int64 (Some (Flat (Whole x))) ≡ slot_text dtype (Some (Flat (Whole x))))
-    refl (λ unit zone. refl) (λ unit. refl) refl dtype built
+slot_text-built Boolean (Some (Flat (Whole x))) built = cc
+slot_text-built dtype (Some (Flat (Whole x))) built = refl
 slot_text-built dtype (Some (Flat (Bytes bytes))) built = refl
 slot_text-built dtype (Some (Nested leaves)) built = refl
 

@@ -2,9 +2,8 @@
 use Rattle.std.proofs.Common.{◌≡◌, ◌∙◌, ℕ, ℤ, Bool, true, false, List, [], ◌∷◌, ◌++◌, filter, Option, Some, None, refl, sym, ap}
 use Rattle.std.specs.Prelude.{option_map, option_and_then, if◌then◌else◌}
 use Rattle.std.specs.List.{onto_first, slice_split}
-use Rattle.col_types.specs.declared.data_type.DataType.{DataType}
+use Rattle.col_types.specs.declared.data_type.DataType.{DataType, Boolean}
 use Rattle.col_model.specs.Column.{is_built_type}
-use Rattle.col_series.proofs.TypeLemmas.{by_built_type}
 use Rattle.col_text.specs.Parts.{with_first, all_read}
 use Rattle.col_text.specs.Slots.{ends_chunk, is_filled, chunks_of, slots_in, slots_by, slot_named, integer_slot_of}
 
@@ -90,6 +89,5 @@ by_slots make (Some chunks) slots e = ap (option_and_then make) e
 -- a column of a type that is built has integers
 pub slots_by-built : (dtype : DataType) (tokens : List (List ℕ)) → is_built_type dtype ≡ true
     → slots_by (slot_named dtype) tokens ≡ slots_by integer_slot_of tokens
-slots_by-built dtype tokens =
-    by_built_type (λ dtype. slots_by (slot_named dtype) tokens ≡ slots_by integer_slot_of tokens)
-    refl (λ unit zone. refl) (λ unit. refl) refl dtype
+slots_by-built Boolean tokens built = cc
+slots_by-built dtype tokens built = refl

@@ -1,5 +1,5 @@
 -- An integer at the front of a line is its first token.
-use Rattle.std.proofs.Common.{◌≡◌, ◌<◌, ◌≤◌, ◌-◌, ◌∙◌, ℕ, ℤ, Bool, true, false, List, [], ◌∷◌, length, take, drop, Some, refl, sym, ap, arith, zero, suc, nat_eq, length-drop}
+use Rattle.std.proofs.Common.{◌≡◌, ◌<◌, ◌≤◌, ◌∙◌, ℕ, ℤ, Bool, true, false, List, [], ◌∷◌, length, take, drop, Some, refl, sym, ap, arith, zero, suc, nat_eq, length-drop}
 use Rattle.std.specs.Int.{IsInRange}
 use Rattle.std.specs.Str.Parse.{AllDigits, digits_value, starts_with_minus}
 use Rattle.std.proofs.lemmas.Str.Parse.{digit_from_value}

@@ -4,7 +4,7 @@ use Rattle.std.proofs.Common.{◌≡◌, ◌^◌, ◌-◌, true, false, refl, []
 use Rattle.std.specs.Prelude.{codes}
 use Rattle.std.specs.Fmt.{digits}
 use Rattle.col_types.specs.declared.time_unit.TimeUnit.TheVariants.{Nanoseconds, Microseconds, Milliseconds}
-use Rattle.col_types.specs.declared.data_type.DataType.{Binary, Boolean, Date, Datetime, Duration, Time}
+use Rattle.col_types.specs.declared.data_type.DataType.{Binary, Boolean, Date, Datetime, Duration, Int64, Time}
 use Rattle.col_types.specs.declared.cast_options.CastOptions.TheVariants.{NonStrict, Strict, Overflowing}
 use Rattle.col_types.specs.declared.operator.BinOp.TheVariants as ops
 use Rattle.col_types.specs.declared.operator.ScalarOp.TheVariants as scalar_ops
@@ -62,6 +62,12 @@ dtypes : (column_dtype [] (codes "date") ≡ Some Date) × (column_dtype [] (cod
     × (column_dtype [] (codes "datetime[ms,UTC]")
     ≡ Some (Datetime Milliseconds (Some (codes "UTC"))))
 dtypes = (refl, refl, refl, refl, refl, refl, refl, refl, refl)
+
+-- one type of integers has a name so far
+integers : (column_dtype [] (codes "i64") ≡ Some Int64) × (target_named [] (codes "i64") ≡ Some Int64)
+    × (column_dtype [] (codes "i32") ≡ None) × (target_named [] (codes "u64") ≡ None)
+    × (column_dtype [] (codes "i64,") ≡ None) × (column_dtype [] (codes "I64") ≡ None)
+integers = (refl, refl, refl, refl, refl, refl)
 
 -- an offset names the zone whose sign is turned, unless the offset was handed in as a name
 offsets : (column_dtype [] (codes "datetime[us,+01:00]")
@@ -146,6 +152,20 @@ whole_script : script_of (codes "col a datetime[ns] -1 null\r\n\nexpr $0")
     })
 whole_script = refl
 
+-- both ends of 64 bits in a column of integers
+whole_words : script_of (codes "col a i64 -9223372036854775808 9223372036854775807\nexpr $0")
+    ≡ Ok (record {
+      inputs = in_one_chunk (record {
+        name = codes "a";
+        dtype = Int64;
+        slots = Some (whole (negsuc 9223372036854775807)) ∷ Some (whole (pos 9223372036854775807)) ∷ [];
+        flag = Not;
+      }) ∷ [];
+      expr = Input 0;
+      plan = [];
+    })
+whole_words = refl
+
 -- bars end chunks, and a chunk without a slot is dropped
 bars : script_of (codes "col a date | 1 | | null 2 |\nexpr $0")
     ≡ Ok (record {
@@ -165,7 +185,8 @@ bad_lines : (script_of [] ≡ Err 1) × (script_of (13 ∷ []) ≡ Err 2)
     × (script_of (codes "\nexpr $0\nx\ny") ≡ Err 3)
     × (script_of (codes "expr $0\nexpr $0\n") ≡ Err 2)
     × (script_of (codes "col a datetime[ns] 9223372036854775808\nexpr $0") ≡ Err 1)
-bad_lines = (refl, refl, refl, refl, refl)
+    × (script_of (codes "col a i64 -9223372036854775809\nexpr $0") ≡ Err 1)
+bad_lines = (refl, refl, refl, refl, refl, refl)
 
 -- the text of a column
 column : column_text (record {
@@ -177,6 +198,17 @@ column : column_text (record {
     ≡ codes "a datetime[ms,UTC] 2\n-10\nnull\n"
 unfolding digits
 column = refl
+
+-- the text of a column of integers
+words : column_text (record {
+  name = codes "a";
+  dtype = Int64;
+  slots = Some (whole (negsuc 9)) ∷ None ∷ [];
+  flag = Not;
+})
+    ≡ codes "a i64 2\n-10\nnull\n"
+unfolding digits
+words = refl
 
 -- the lines of a refusal and of a bad script
 lines : (fault_text (refusals.Strict 2 10) ≡ codes "refused 2 strict 10\n")

@@ -11,7 +11,7 @@ use Rattle.col_types.specs.Zones.{opt_zone}
 use Rattle.col_types.specs.DataType.{is_expression_type}
 use Rattle.col_types.specs.declared.time_unit.TimeUnit.{TimeUnit}
 use Rattle.col_types.specs.declared.data_type.DataType.{DataType, String, Binary, Date, Datetime}
-use Rattle.col_types.specs.declared.data_type.DataType.{Duration, Time}
+use Rattle.col_types.specs.declared.data_type.DataType.{Duration, Time, Int64}
 use Rattle.col_text.specs.Parts.{after_prefix, before_suffix, first_read}
 
 -- a zone behind its unit
@@ -21,6 +21,7 @@ zone_text (Some name) = codes "," ++ name
 
 -- the text of a type that a script can name
 abbrev pub dtype_text : DataType → List ℕ
+dtype_text Int64 = codes "i64"
 dtype_text Date = codes "date"
 dtype_text Time = codes "time"
 dtype_text (Datetime unit zone_name) =
@@ -37,7 +38,8 @@ dtype_among dtypes text = find (λ dtype. bytes_eq text (dtype_text dtype)) dtyp
 -- the types of columns without a zone
 abbrev pub plain_dtypes : List DataType
 plain_dtypes =
-    Date ∷ (Time ∷ (map (λ unit. Datetime unit None) all_units ++ map Duration all_units))
+    Int64 ∷ (Date ∷ (Time ∷ (map (λ unit. Datetime unit None) all_units
+    ++ map Duration all_units)))
 
 -- the types that a cast can name beside those of columns
 abbrev pub target_dtypes : List DataType

@@ -141,12 +141,12 @@ fn column_with(
             Ok(words) => read_ticks(alloc, words, dtype),
             Err(error) => Err(error),
         },
-        DataType::Datetime(_, _) | DataType::Duration(_) => match words_with::<i64, Ticks>(
-            alloc, name, line,
-        ) {
-            Ok(words) => read_ticks(alloc, words, dtype),
-            Err(error) => Err(error),
-        },
+        DataType::Datetime(_, _) | DataType::Duration(_) | DataType::Int64 => {
+            match words_with::<i64, Ticks>(alloc, name, line) {
+                Ok(words) => read_ticks(alloc, words, dtype),
+                Err(error) => Err(error),
+            }
+        }
         _ => unreachable!(),
     }
 }

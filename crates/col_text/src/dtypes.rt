@@ -1,7 +1,7 @@
 // The texts of types.
 ghost use Rattle.std.specs.Prelude.{◌≡◌, ◌++◌, true, false, codes, string_bytes};
 ghost use Rattle.std.specs.Prelude.{OnOk, IfSome, option_map};
-ghost use Rattle.col_types.specs.DataType.{holds_integers, is_temporal};
+ghost use Rattle.col_types.specs.DataType.{holds_integers, is_built};
 ghost use Rattle.col_types.specs.TimeUnit.{unit_name};
 ghost use Rattle.col_model.specs.Column.{is_built_type};
 ghost use Rattle.col_expr.specs.Built.{is_built_cast};
@@ -25,9 +25,11 @@ use std::alloc::AllocError;
 
 fn plain_dtype(token: &[u8]) -> Option<DataType>
     ensures dtype { result ≡ dtype_among plain_dtypes token.now }
-    ensures temporal { IfSome result (λ dtype. is_temporal dtype ≡ true) }
+    ensures built { IfSome result (λ dtype. is_built dtype ≡ true) }
 {
-    if is_word(token, "date") {
+    if is_word(token, "i64") {
+        Some(DataType::Int64)
+    } else if is_word(token, "date") {
         Some(DataType::Date)
     } else if is_word(token, "time") {
         Some(DataType::Time)
@@ -89,7 +91,7 @@ fn zone_named(names: &ZoneNames, part: &[u8]) -> Option<Option<TimeZone>>
 
 fn zoned_dtype(names: &ZoneNames, token: &[u8], unit: TimeUnit) -> Option<DataType>
     ensures dtype { result ≡ zoned_dtype names.now token.now unit }
-    ensures temporal { IfSome result (λ dtype. is_temporal dtype ≡ true) }
+    ensures built { IfSome result (λ dtype. is_built dtype ≡ true) }
 {
     let zone = zone_named(names, zone_part(unit, token)?)?;
     Some(DataType::Datetime(unit, zone))
@@ -98,7 +100,7 @@ fn zoned_dtype(names: &ZoneNames, token: &[u8], unit: TimeUnit) -> Option<DataTy
 /// The type that a token names, with the zones handed in before.
 fn dtype_named(names: &ZoneNames, token: &[u8]) -> Option<DataType>
     ensures dtype { result ≡ dtype_named names.now token.now }
-    ensures temporal { IfSome result (λ dtype. is_temporal dtype ≡ true) }
+    ensures built { IfSome result (λ dtype. is_built dtype ≡ true) }
 {
     plain_dtype(token)
         .or_else(|| zoned_dtype(names, token, TimeUnit::Nanoseconds))
@@ -146,6 +148,7 @@ pub(crate) fn push_dtype(text: &mut String, dtype: &DataType) -> Result<(), Allo
         ≡ string_bytes text.old ++ dtype_text dtype.now) }
 {
     match dtype {
+        DataType::Int64 => text.push_str("i64"),
         DataType::Date => text.push_str("date"),
         DataType::Time => text.push_str("time"),
         DataType::Datetime(unit, zone) => {
