@@ -18,7 +18,8 @@ use Rattle.col_arith.specs.declared.pair_rule.PairRule.TheVariants.{DateWith, Ti
 use Rattle.col_arith.specs.declared.scalars.ScalarForm.{ScalarForm}
 use Rattle.col_arith.specs.ScalarForm.{form_of}
 use Rattle.col_arith.specs.PairRule.{operand_of, add_or_sub, formula_of, is_tick_in, tick_values, date_values}
-use Rattle.col_model.specs.OperatorTable.{wrapping}
+use Rattle.col_types.specs.declared.operator.BinOp.{BinOp}
+use Rattle.col_model.specs.OperatorTable.{number_form, wrapping}
 use Rattle.std.proofs.lemmas.Int.{to_z-of_z}
 
 -- a sum as std wraps it
@@ -136,6 +137,18 @@ rest-both left right x y slot p q e f g =
     ∙ ap (λ (o : Option ℤ). on_both (divided floor_mod) (value_of (duration_by left X) x y) o) (f ∙ sym (length-right right x y))
 
 -- ---- words
+
+-- what two integers of a word give as words they give as themselves
+pub number-read : (w : Width) (op : BinOp) (slot : Option ℤ) (x z y l : ℤ) → is_tick_in (word_values (Signed w)) slot ≡ true
+    → x ≡ y → z ≡ l → FitsSigned w y → FitsSigned w l
+    → option_map (wrapped_value (Signed w)) slot ≡ value_of (number_form op (Signed w)) (wrapped_value (Signed w) x) (wrapped_value (Signed w) z)
+    → slot ≡ value_of (number_form op (Signed w)) y l
+number-read w op slot x z y l h p q f g e =
+    let left : wrapped_value (Signed w) x ≡ y = ap (wrapped_value (Signed w)) p ∙ read_signed w y f in
+    let right : wrapped_value (Signed w) z ≡ l = ap (wrapped_value (Signed w)) q ∙ read_signed w l g in
+    sym (read_slot w slot h) ∙ e
+    ∙ ap (λ (v : ℤ). value_of (number_form op (Signed w)) v (wrapped_value (Signed w) z)) left
+    ∙ ap (λ (v : ℤ). value_of (number_form op (Signed w)) y v) right
 
 -- what a form gives in words it gives in the integers that they stand for
 pub form-read : (w : Width) (form : ScalarForm) (slot : Option ℤ) (x k y l : ℤ) → is_tick_in (word_values (Signed w)) slot ≡ true

@@ -10,7 +10,7 @@ use Rattle.col_model.specs.Formula as formulas
 use Rattle.col_model.specs.Formula.{Formula, X, Y, FloorBy, FloorMod, value_of, on_both}
 use Rattle.col_model.specs.UnitChange as units
 use Rattle.col_model.specs.UnitChange.{times, in_finer_unit, datetime_by, duration_by}
-use Rattle.col_model.specs.OperatorTable.{OperatorRule, wrapping, as_date}
+use Rattle.col_model.specs.OperatorTable.{OperatorRule, wrapping, as_date, as_tick, number_form}
 use Rattle.col_arith.specs.declared.pair_rule.AddOrSub.{AddOrSub}
 use Rattle.col_arith.specs.declared.pair_rule.AddOrSub.TheVariants.{Add, Sub}
 use Rattle.col_arith.specs.declared.pair_rule.Operand.{Operand}
@@ -18,7 +18,9 @@ use Rattle.col_arith.specs.declared.pair_rule.Operand.TheVariants.{Moment, Lengt
 use Rattle.col_arith.specs.declared.pair_rule.PairRule.{PairRule}
 use Rattle.col_arith.specs.declared.pair_rule.PairRule.TheVariants.{DatesApart, TimesApart}
 use Rattle.col_arith.specs.declared.pair_rule.PairRule.TheVariants.{DateWith, LengthThenDate}
-use Rattle.col_arith.specs.declared.pair_rule.PairRule.TheVariants.{Ticks, Rest}
+use Rattle.col_arith.specs.declared.pair_rule.PairRule.TheVariants.{Ticks, Rest, Numbers}
+use Rattle.col_arith.specs.declared.pair_rule.PairRule.TheVariants.{LengthTimes, TimesLength}
+use Rattle.col_arith.specs.declared.pair_rule.PairRule.TheVariants.{LengthPart}
 use Rattle.col_arith.specs.declared.pair_rule.TypedRule.{TypedRule}
 
 -- the formula of a sum or a difference
@@ -42,6 +44,10 @@ formula_of (LengthThenDate day) = as_date (formulas.Sum (FloorBy X day) Y)
 formula_of (Ticks op left right) =
     wrapping (add_or_sub op) (operand_of left X) (operand_of right Y)
 formula_of (Rest left right) = FloorMod (duration_by left X) (duration_by right Y)
+formula_of (Numbers op) = number_form op (Signed w64)
+formula_of LengthTimes = wrapping formulas.Product X (as_tick Y)
+formula_of TimesLength = wrapping formulas.Product (as_tick X) Y
+formula_of LengthPart = wrapping formulas.FloorDiv X (as_tick Y)
 
 -- the rule of the table
 abbrev pub operator_rule_of : TypedRule → OperatorRule
@@ -76,6 +82,10 @@ left_values (DateWith op day change) = date_values
 left_values (LengthThenDate day) = tick_values
 left_values (Ticks op left right) = operand_values left
 left_values (Rest left right) = tick_values
+left_values (Numbers op) = tick_values
+left_values LengthTimes = tick_values
+left_values TimesLength = tick_values
+left_values LengthPart = tick_values
 
 -- the values that the right operand of a rule can have
 abbrev pub right_values : PairRule → Interval
@@ -85,6 +95,10 @@ right_values (DateWith op day change) = tick_values
 right_values (LengthThenDate day) = date_values
 right_values (Ticks op left right) = operand_values right
 right_values (Rest left right) = tick_values
+right_values (Numbers op) = tick_values
+right_values LengthTimes = tick_values
+right_values TimesLength = tick_values
+right_values LengthPart = tick_values
 
 -- the values that the answer of a rule can have
 abbrev pub answer_values : PairRule → Interval
@@ -127,6 +141,10 @@ IsProper (DateWith op day change) = IsShortDay day × units.IsProper change
 IsProper (LengthThenDate day) = IsDay day
 IsProper (Ticks op left right) = IsProperOperand left × IsProperOperand right
 IsProper (Rest left right) = units.IsProper left × units.IsProper right
+IsProper (Numbers op) = Unit {0}
+IsProper LengthTimes = Unit {0}
+IsProper TimesLength = Unit {0}
+IsProper LengthPart = Unit {0}
 
 -- what a rule has to do with the types of its operands and its answer
 pub record FitsTypes (left right : DataType) (typed : TypedRule) : Type 0 where

@@ -1,7 +1,7 @@
 // Two columns joined by an operator.
 ghost use Rattle.std.specs.Prelude.{◌≡◌, Err, is_some, length};
 ghost use Rattle.col_types.specs.PolarsError.{GivesBy};
-ghost use Rattle.col_types.specs.declared.operator.BinOp.TheVariants.{Add, Sub, Rem};
+ghost use Rattle.col_types.specs.declared.operator.BinOp.TheVariants.{Add, Sub, Mul, Div, Rem};
 ghost use Rattle.col_model.specs.Broadcast.{broadcast_length};
 ghost use Rattle.col_model.specs.Chunked.{column_of};
 ghost use Rattle.col_model.specs.OperationNames.{name_of_op, unsupported};
@@ -11,9 +11,12 @@ ghost use Rattle.col_arith.specs.Coercion.{uncoerced_of};
 use crate::coercion::changes_type;
 use crate::joined::{
     dates_and_moments, dates_apart, dates_with_lengths, lengths_with_dates, moments_and_dates,
-    ticks_joined, times_apart,
+    ticks_joined, times_apart, words_joined,
 };
-use crate::operators::{DateWith, Lengths, Minus, Moments, Plus, Rests, Ticks};
+use crate::operators::{
+    Adding, DateWith, Dividing, Leaving, LengthPart, LengthTimes, Lengths, Minus, Moments,
+    Multiplying, Numbers, Plus, Rests, Subtracting, Ticks, TimesLength,
+};
 use crate::pair_rule::unsupported;
 use col_series::Series;
 use col_types::{BinOp, DataType, PolarsError, PolarsResult, get_time_units, same_zone};
@@ -28,7 +31,8 @@ pub fn binary(alloc: Global, op: BinOp, left: &Series, right: &Series) -> Polars
     match op {
         BinOp::Add => sums(alloc, left, right),
         BinOp::Sub => differences(alloc, left, right),
-        BinOp::Mul | BinOp::Div => refused(op, left, right),
+        BinOp::Mul => products(alloc, left, right),
+        BinOp::Div => quotients(alloc, left, right),
         BinOp::Rem => rests(alloc, left, right),
     }
 }
@@ -97,6 +101,9 @@ fn sums(alloc: Global, left: &Series, right: &Series) -> PolarsResult<Series>
             let dtype = DataType::Duration(get_time_units(*u, *v));
             ticks_joined::<Ticks<Plus, Lengths, Lengths>>(alloc, (*u, *v), left, right, dtype)
         }
+        (DataType::Int64, DataType::Int64) => {
+            words_joined::<Numbers<Adding>>(alloc, left, right, DataType::Int64)
+        }
         _ => refused(BinOp::Add, left, right),
     }
 }
@@ -130,18 +137,63 @@ fn differences(alloc: Global, left: &Series, right: &Series) -> PolarsResult<Ser
             let dtype = DataType::Duration(get_time_units(*u, *v));
             ticks_joined::<Ticks<Minus, Lengths, Lengths>>(alloc, (*u, *v), left, right, dtype)
         }
+        (DataType::Int64, DataType::Int64) => {
+            words_joined::<Numbers<Subtracting>>(alloc, left, right, DataType::Int64)
+        }
         _ => refused(BinOp::Sub, left, right),
     }
 }
 
-/// What divisions of lengths of time leave.
+/// Products; a length of time as many times as an integer on either side says.
+fn products(alloc: Global, left: &Series, right: &Series) -> PolarsResult<Series>
+    ensures column { GivesBy column_of result (binary_of Mul left.now.column right.now.column) }
+{
+    left.known();
+    right.known();
+    match (left.dtype(), right.dtype()) {
+        (DataType::Duration(u), DataType::Int64) => {
+            words_joined::<LengthTimes>(alloc, left, right, DataType::Duration(*u))
+        }
+        (DataType::Int64, DataType::Duration(v)) => {
+            words_joined::<TimesLength>(alloc, left, right, DataType::Duration(*v))
+        }
+        (DataType::Int64, DataType::Int64) => {
+            words_joined::<Numbers<Multiplying>>(alloc, left, right, DataType::Int64)
+        }
+        _ => refused(BinOp::Mul, left, right),
+    }
+}
+
+/// Quotients, rounded down; a part of a length of time.
+fn quotients(alloc: Global, left: &Series, right: &Series) -> PolarsResult<Series>
+    ensures column { GivesBy column_of result (binary_of Div left.now.column right.now.column) }
+{
+    left.known();
+    right.known();
+    match (left.dtype(), right.dtype()) {
+        (DataType::Duration(u), DataType::Int64) => {
+            words_joined::<LengthPart>(alloc, left, right, DataType::Duration(*u))
+        }
+        (DataType::Int64, DataType::Int64) => {
+            words_joined::<Numbers<Dividing>>(alloc, left, right, DataType::Int64)
+        }
+        _ => refused(BinOp::Div, left, right),
+    }
+}
+
+/// What divisions of lengths of time or of integers leave.
 fn rests(alloc: Global, left: &Series, right: &Series) -> PolarsResult<Series>
     ensures column { GivesBy column_of result (binary_of Rem left.now.column right.now.column) }
 {
+    left.known();
+    right.known();
     match (left.dtype(), right.dtype()) {
         (DataType::Duration(u), DataType::Duration(v)) => {
             let dtype = DataType::Duration(get_time_units(*u, *v));
             ticks_joined::<Rests>(alloc, (*u, *v), left, right, dtype)
+        }
+        (DataType::Int64, DataType::Int64) => {
+            words_joined::<Numbers<Leaving>>(alloc, left, right, DataType::Int64)
         }
         _ => refused(BinOp::Rem, left, right),
     }

@@ -42,6 +42,25 @@ pub(crate) fn ticks_joined<R: Operator<i64, i64, i64>>(
     read_ticks(alloc, words, dtype)
 }
 
+/// Two columns of words of 64 bits under a row that doesn't depend on units.
+pub(crate) fn words_joined<R: Operator<i64, i64, i64>>(
+    alloc: Global,
+    left: &Series,
+    right: &Series,
+    dtype: DataType,
+) -> PolarsResult<Series>
+    requires left { physical_word left.now.column.dtype ≡ Some (Signed w64) }
+    requires right { physical_word right.now.column.dtype ≡ Some (Signed w64) }
+    requires built_type { is_built_type dtype ≡ true }
+    requires stored { physical_word dtype ≡ Some (Signed w64) }
+    requires no_bound { HasNoBound dtype }
+    ensures column { GivesBy column_of result
+        (joined_by (R.formula Milliseconds Milliseconds) dtype left.now.column right.now.column) }
+{
+    let words = at_units::<i64, i64, i64, R, Millis, Millis>(alloc, left.int64(), right.int64());
+    read_ticks(alloc, words, dtype)
+}
+
 /// Dates with lengths of time of a unit.
 pub(crate) fn dates_with_lengths<R: Operator<i32, i64, i32>>(
     alloc: Global,

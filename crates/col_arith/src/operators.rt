@@ -1,11 +1,16 @@
 // The rows of the operator table as types, so that a loop has their constants.
 ghost use Rattle.std.specs.Prelude.{◌≡◌};
+ghost use Rattle.std.specs.Int.{w64};
 ghost use Rattle.col_types.specs.TimeUnit.{coarser_unit, ticks_per_day};
 ghost use Rattle.col_types.specs.declared.time_unit.TimeUnit.{TimeUnit};
 ghost use Rattle.col_types.specs.declared.time_unit.TimeUnit.TheVariants.{Milliseconds};
-ghost use Rattle.col_model.specs.Arithmetic.{word_values};
-ghost use Rattle.col_model.specs.Formula.{Formula, X, Y, Difference, FloorBy, FloorMod, Sum};
-ghost use Rattle.col_model.specs.OperatorTable.{as_date, date_joined, wrapping};
+ghost use Rattle.col_types.specs.declared.operator.BinOp.{BinOp};
+ghost use Rattle.col_types.specs.declared.operator.BinOp.TheVariants as ops;
+ghost use Rattle.col_model.specs.Arithmetic.{Signed, word_values};
+ghost use Rattle.col_model.specs.Formula.{Formula, X, Y, Difference, FloorBy, FloorDiv, FloorMod};
+ghost use Rattle.col_model.specs.Formula.{Product, Sum};
+ghost use Rattle.col_model.specs.OperatorTable.{as_date, as_tick, date_joined, number_form};
+ghost use Rattle.col_model.specs.OperatorTable.{wrapping};
 ghost use Rattle.col_model.specs.UnitChange.{day_in_unit, duration_in_unit, times, unit_change};
 ghost use Rattle.col_arith.specs.declared.pair_rule.AddOrSub.{AddOrSub};
 ghost use Rattle.col_arith.specs.declared.pair_rule.AddOrSub.TheVariants.{Add, Sub};
@@ -21,7 +26,7 @@ use crate::pair_rule::{
 };
 use crate::words::TickWord;
 use col_model::{UnitChange, unit_change};
-use col_types::{TimeUnit as AnyUnit, get_time_units};
+use col_types::{BinOp as AnyOp, TimeUnit as AnyUnit, get_time_units};
 use std::marker::PhantomData;
 
 /// A row of the operator table, for each unit of the left and of the right operand. Where an
@@ -190,5 +195,116 @@ impl Operator<i32, i32, i64> for DatesApart {
 
     fn rule(_left: AnyUnit, _right: AnyUnit) -> Rule {
         Rule::DatesApart
+    }
+}
+
+/// An operator as a type.
+pub(crate) trait Joining {
+    /// Which one.
+    ghost op: { BinOp };
+
+    /// Which one.
+    fn get() -> AnyOp
+        ensures op { result ≡ op };
+}
+
+/// Sums of integers.
+pub(crate) struct Adding;
+
+impl Joining for Adding {
+    ghost op = { ops.Add };
+
+    fn get() -> AnyOp {
+        AnyOp::Add
+    }
+}
+
+/// Differences of integers.
+pub(crate) struct Subtracting;
+
+impl Joining for Subtracting {
+    ghost op = { ops.Sub };
+
+    fn get() -> AnyOp {
+        AnyOp::Sub
+    }
+}
+
+/// Products of integers.
+pub(crate) struct Multiplying;
+
+impl Joining for Multiplying {
+    ghost op = { ops.Mul };
+
+    fn get() -> AnyOp {
+        AnyOp::Mul
+    }
+}
+
+/// Quotients of integers, rounded down.
+pub(crate) struct Dividing;
+
+impl Joining for Dividing {
+    ghost op = { ops.Div };
+
+    fn get() -> AnyOp {
+        AnyOp::Div
+    }
+}
+
+/// What divisions of integers leave.
+pub(crate) struct Leaving;
+
+impl Joining for Leaving {
+    ghost op = { ops.Rem };
+
+    fn get() -> AnyOp {
+        AnyOp::Rem
+    }
+}
+
+/// Integers joined.
+pub(crate) struct Numbers<O: Joining> {
+    op: PhantomData<O>,
+}
+
+impl<O: Joining> Operator<i64, i64, i64> for Numbers<O> {
+    ghost formula = { λ u v. number_form O.op (Signed w64) };
+
+    fn rule(_left: AnyUnit, _right: AnyUnit) -> Rule {
+        Rule::Numbers(O::get())
+    }
+}
+
+/// Lengths of time, each as many times as an integer on its right says.
+pub(crate) struct LengthTimes;
+
+impl Operator<i64, i64, i64> for LengthTimes {
+    ghost formula = { λ u v. wrapping Product X (as_tick Y) };
+
+    fn rule(_left: AnyUnit, _right: AnyUnit) -> Rule {
+        Rule::LengthTimes
+    }
+}
+
+/// Lengths of time, each as many times as an integer on its left says.
+pub(crate) struct TimesLength;
+
+impl Operator<i64, i64, i64> for TimesLength {
+    ghost formula = { λ u v. wrapping Product (as_tick X) Y };
+
+    fn rule(_left: AnyUnit, _right: AnyUnit) -> Rule {
+        Rule::TimesLength
+    }
+}
+
+/// Lengths of time divided by integers.
+pub(crate) struct LengthPart;
+
+impl Operator<i64, i64, i64> for LengthPart {
+    ghost formula = { λ u v. wrapping FloorDiv X (as_tick Y) };
+
+    fn rule(_left: AnyUnit, _right: AnyUnit) -> Rule {
+        Rule::LengthPart
     }
 }

@@ -1,11 +1,13 @@
 // The rules of the operator table.
-ghost use Rattle.std.specs.Prelude.{◌≡◌, Some, IfSome};
+ghost use Rattle.std.specs.Prelude.{◌≡◌, true, Some, IfSome};
 ghost use Rattle.col_types.specs.TimeUnit.{ticks_per_day, coarser_unit};
 ghost use Rattle.col_types.specs.declared.time_unit.TimeUnit.TheVariants.{Milliseconds};
+ghost use Rattle.col_model.specs.Column.{is_built_type};
 ghost use Rattle.col_model.specs.OperationNames.{name_of_op, unsupported};
 ghost use Rattle.col_model.specs.UnitChange.{unit_change};
-ghost use Rattle.col_model.specs.OperatorTable.{listed_rule};
-ghost use Rattle.col_model.specs.OperatorTable.{sum_rule, difference_rule, rest_rule};
+ghost use Rattle.col_model.specs.OperatorTable.{listed_rule, number_rule, temporal_rule};
+ghost use Rattle.col_model.specs.OperatorTable.{sum_rule, difference_rule, product_rule};
+ghost use Rattle.col_model.specs.OperatorTable.{quotient_rule, rest_rule};
 ghost use Rattle.col_arith.specs.PairRule.{listed_rule_of, FitsTypes};
 ghost use Rattle.col_arith.specs.PairRule.{IsProper, IsProperOperand, IsDay};
 
@@ -45,6 +47,14 @@ pub(crate) enum PairRule {
     Ticks(AddOrSub, Operand, Operand),
     /// What a division of two lengths of time leaves.
     Rest(UnitChange, UnitChange),
+    /// Two integers of 64 bits.
+    Numbers(BinOp),
+    /// A length of time as many times as an integer on its right says.
+    LengthTimes,
+    /// A length of time as many times as an integer on its left says.
+    TimesLength,
+    /// A length of time divided by an integer.
+    LengthPart,
 }
 
 /// A rule with the answer's type.
@@ -135,14 +145,48 @@ pub(crate) fn unsupported(op: BinOp, left: &DataType, right: &DataType) -> Polar
 
 /// The rule that the table lists for an operator and two types, or none.
 pub(crate) fn listed_rule(op: BinOp, left: &DataType, right: &DataType) -> Option<TypedRule>
+    requires left { is_built_type left.now ≡ true }
+    requires right { is_built_type right.now ≡ true }
     ensures rule { listed_rule_of result ≡ listed_rule op left.now right.now }
+    ensures fits { IfSome result (FitsTypes left.now right.now) }
+{
+    match temporal_rule(op, left, right) {
+        Some(typed) => Some(typed),
+        None => number_rule(op, left, right),
+    }
+}
+
+/// The rule for an operator with a temporal type on a side, or none.
+fn temporal_rule(op: BinOp, left: &DataType, right: &DataType) -> Option<TypedRule>
+    requires left { is_built_type left.now ≡ true }
+    requires right { is_built_type right.now ≡ true }
+    ensures rule { listed_rule_of result ≡ temporal_rule op left.now right.now }
     ensures fits { IfSome result (FitsTypes left.now right.now) }
 {
     match op {
         BinOp::Add => sum_rule(left, right),
         BinOp::Sub => difference_rule(left, right),
-        BinOp::Mul | BinOp::Div => None,
+        BinOp::Mul => product_rule(left, right),
+        BinOp::Div => quotient_rule(left, right),
         BinOp::Rem => rest_rule(left, right),
+    }
+}
+
+/// The rule for an operator between integers, or none.
+fn number_rule(op: BinOp, left: &DataType, right: &DataType) -> Option<TypedRule>
+    requires left { is_built_type left.now ≡ true }
+    requires right { is_built_type right.now ≡ true }
+    ensures rule { listed_rule_of result ≡ number_rule op left.now right.now }
+    ensures fits { IfSome result (FitsTypes left.now right.now) }
+{
+    match (left, right) {
+        (DataType::Int64, DataType::Int64) => {
+            Some(TypedRule {
+                dtype: DataType::Int64,
+                rule: PairRule::Numbers(op),
+            })
+        }
+        _ => None,
     }
 }
 
@@ -273,6 +317,45 @@ fn rest_rule(left: &DataType, right: &DataType) -> Option<TypedRule>
             Some(TypedRule {
                 dtype: DataType::Duration(w),
                 rule,
+            })
+        }
+        _ => None,
+    }
+}
+
+fn product_rule(left: &DataType, right: &DataType) -> Option<TypedRule>
+    requires left { is_built_type left.now ≡ true }
+    requires right { is_built_type right.now ≡ true }
+    ensures rule { listed_rule_of result ≡ product_rule left.now right.now }
+    ensures fits { IfSome result (FitsTypes left.now right.now) }
+{
+    match (left, right) {
+        (DataType::Duration(u), DataType::Int64) => {
+            Some(TypedRule {
+                dtype: DataType::Duration(*u),
+                rule: PairRule::LengthTimes,
+            })
+        }
+        (DataType::Int64, DataType::Duration(v)) => {
+            Some(TypedRule {
+                dtype: DataType::Duration(*v),
+                rule: PairRule::TimesLength,
+            })
+        }
+        _ => None,
+    }
+}
+
+fn quotient_rule(left: &DataType, right: &DataType) -> Option<TypedRule>
+    requires right { is_built_type right.now ≡ true }
+    ensures rule { listed_rule_of result ≡ quotient_rule left.now right.now }
+    ensures fits { IfSome result (FitsTypes left.now right.now) }
+{
+    match (left, right) {
+        (DataType::Duration(u), DataType::Int64) => {
+            Some(TypedRule {
+                dtype: DataType::Duration(*u),
+                rule: PairRule::LengthPart,
             })
         }
         _ => None,

@@ -44,7 +44,7 @@ fn scalar(alloc: Global, column: &Series, form: ScalarForm, k: i128) -> PolarsRe
     match column.dtype() {
         DataType::Date => dates_with_scalar(alloc, column, form, k),
         DataType::Time => times_with_scalar(alloc, column, form, k),
-        DataType::Datetime(_, _) | DataType::Duration(_) => {
+        DataType::Datetime(_, _) | DataType::Duration(_) | DataType::Int64 => {
             ticks_with_scalar(alloc, column, form, k)
         }
         _ => unreachable!(),

@@ -1,9 +1,8 @@
 // Where the ticks lie that scalar forms give.
 ghost use Rattle.std.specs.Prelude.{◌≡◌, true, Some};
-ghost use Rattle.std.specs.Option.{option_and_then};
 ghost use Rattle.col_model.specs.Arithmetic.{word_values};
 ghost use Rattle.col_model.specs.Column.{is_built_type};
-ghost use Rattle.col_model.specs.Formula.{interval_of, inside_interval};
+ghost use Rattle.col_model.specs.Formula.{interval_of};
 ghost use Rattle.col_model.specs.IntervalRoom.{IsNear, IsOrdered, only};
 ghost use Rattle.col_model.specs.RuleIntervals.{scalar_interval};
 ghost use Rattle.col_model.specs.ScalarTable.{is_scalar_of, right_form, left_form};
@@ -11,6 +10,7 @@ ghost use Rattle.col_model.specs.ScalarTable.{scalar_right_rule, scalar_left_rul
 ghost use Rattle.col_arith.specs.ScalarForm.{form_of, bounded_by, word_of};
 ghost use Rattle.col_arith.specs.Intervals.{form_rule};
 
+use crate::intervals::inside_of;
 use crate::scalars::{ScalarForm, Ticks, ticks_of};
 use col_model::{
     Interval, date_values, day_values, difference, floor_quotients, inside, only, product, rest,
@@ -26,16 +26,6 @@ fn word_interval(ticks: Ticks) -> Interval
     match ticks {
         Ticks::Days => date_values(),
         Ticks::Times | Ticks::Wide => tick_values(),
-    }
-}
-
-/// An interval in a range, none where there is none or it isn't inside.
-fn inside_of(range: Interval, p: Option<Interval>) -> Option<Interval>
-    ensures inside { result ≡ option_and_then (inside_interval range) p }
-{
-    match p {
-        Some(p) => inside(range, p),
-        None => None,
     }
 }
 

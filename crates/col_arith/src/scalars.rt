@@ -27,7 +27,7 @@ pub(crate) enum Ticks {
     Days,
     /// Nanoseconds of a day.
     Times,
-    /// Ticks of any size in 64 bits.
+    /// Ticks of any size, or integers, in 64 bits.
     Wide,
 }
 
@@ -39,7 +39,7 @@ pub(crate) fn ticks_of(dtype: &DataType) -> Ticks
     match dtype {
         DataType::Date => Ticks::Days,
         DataType::Time => Ticks::Times,
-        DataType::Datetime(_, _) | DataType::Duration(_) => Ticks::Wide,
+        DataType::Datetime(_, _) | DataType::Duration(_) | DataType::Int64 => Ticks::Wide,
         _ => unreachable!(),
     }
 }

@@ -1,10 +1,11 @@
 // Two ticks under a rule of the operator table.
 ghost use Rattle.std.specs.Prelude.{◌≡◌, ◌<◌, ◌≤◌, ◌^◌, ◌+ℤ◌, ◌*ℤ◌, pos, true, Some, unsigned_abs};
 ghost use Rattle.std.specs.Option.{option_and_then, option_map};
-ghost use Rattle.col_model.specs.Arithmetic.{fitting_value, floor_by, floor_mod, is_within};
+ghost use Rattle.std.specs.Int.{w64};
+ghost use Rattle.col_model.specs.Arithmetic.{Signed, fitting_value, floor_by, floor_mod, is_within};
 ghost use Rattle.col_model.specs.Formula.{X, Y, value_of, divided, on_both};
 ghost use Rattle.col_model.specs.UnitChange as units;
-ghost use Rattle.col_model.specs.OperatorTable.{wrapping};
+ghost use Rattle.col_model.specs.OperatorTable.{number_form, wrapping};
 ghost use Rattle.col_arith.specs.PairRule.{formula_of, add_or_sub, operand_of};
 ghost use Rattle.col_arith.specs.PairRule.{IsProper, IsProperOperand, IsShortDay};
 ghost use Rattle.col_arith.specs.PairRule.{is_tick_in, date_values, tick_values};
@@ -13,7 +14,7 @@ ghost use Rattle.col_arith.specs.PairRule.{left_values, right_values, answer_val
 use crate::pair_rule::{AddOrSub, Operand, PairRule};
 use col_kernel::Word;
 use col_model::{UnitChange, datetime_by, duration_by, fitting_day};
-use col_types::MILLIS_PER_DAY;
+use col_types::{BinOp, MILLIS_PER_DAY};
 
 // Each function is inlined into the loop that calls it with a rule of constants, which then tests no
 // rule and divides by constants.
@@ -154,6 +155,30 @@ fn length_then_date(day: u64, length: i64, date: i64) -> Option<i64>
     as_date(days_after(whole_days(length, day), date))
 }
 
+/// Two integers of one word joined, wrapped to the word; none for a divisor 0.
+#[inline(always)]
+fn joined_words<W: Word>(op: BinOp, left: W, right: W) -> Option<W>
+    ensures value { option_map W.reading result ≡
+        value_of (number_form op W.word_type) (W.reading left) (W.reading right) }
+{
+    match op {
+        BinOp::Add => Some(left.add_wrap(right)),
+        BinOp::Sub => Some(left.sub_wrap(right)),
+        BinOp::Mul => Some(left.mul_wrap(right)),
+        BinOp::Div => left.floor_div(right),
+        BinOp::Rem => left.floor_mod(right),
+    }
+}
+
+/// Two integers of 64 bits joined.
+#[inline(always)]
+fn joined_numbers(op: BinOp, left: i64, right: i64) -> Option<i64>
+    ensures value { result ≡ value_of (number_form op (Signed w64)) left right }
+    ensures fits { is_tick_in tick_values result ≡ true }
+{
+    joined_words(op, left, right)
+}
+
 /// Two ticks under the rule.
 #[inline(always)]
 pub(crate) fn pair_tick(rule: PairRule, left: i64, right: i64) -> Option<i64>
@@ -179,5 +204,9 @@ pub(crate) fn pair_tick(rule: PairRule, left: i64, right: i64) -> Option<i64>
                 duration_by(right, right_change),
             )
         }
+        PairRule::Numbers(op) => joined_numbers(op, left, right),
+        PairRule::LengthTimes => joined_numbers(BinOp::Mul, left, right),
+        PairRule::TimesLength => joined_numbers(BinOp::Mul, left, right),
+        PairRule::LengthPart => joined_numbers(BinOp::Div, left, right),
     }
 }
