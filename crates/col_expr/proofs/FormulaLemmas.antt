@@ -7,7 +7,7 @@ use Rattle.std.specs.Result.{result_ok}
 use Rattle.std.proofs.lemmas.Bool.{and_parts, false≢true}
 use Rattle.std.proofs.lemmas.List.Elements.{All-head, All-tail}
 use Rattle.col_types.specs.DataType.{is_built, is_column_type, holds_integers, is_bad_target, is_expression_target}
-use Rattle.col_types.specs.declared.data_type.DataType.{DataType, Date, Datetime, Duration, Time}
+use Rattle.col_types.specs.declared.data_type.DataType.{DataType, Date, Datetime, Duration, Time, Int64}
 use Rattle.col_types.specs.declared.cast_options.CastOptions.{CastOptions}
 use Rattle.col_types.specs.declared.error.PolarsError.{PolarsError}
 use Rattle.col_types.specs.declared.operator.BinOp.{BinOp}
@@ -160,10 +160,11 @@ input_fits inputs all index dtype e =
 settled_as_is : (target : DataType) → is_built target ≡ true → (from : DataType) → is_built from ≡ true → resolved_target from target ≡ target
 settled_as_is =
     by_built (λ t. (from : DataType) → is_built from ≡ true → resolved_target from t ≡ t)
-    (by_built (λ f. resolved_target f Date ≡ Date) refl (λ u z. refl) (λ u. refl) refl)
-    (λ u z. by_built (λ f. resolved_target f (Datetime u z) ≡ Datetime u z) refl (λ v y. refl) (λ v. refl) refl)
-    (λ u. by_built (λ f. resolved_target f (Duration u) ≡ Duration u) refl (λ v y. refl) (λ v. refl) refl)
-    (by_built (λ f. resolved_target f Time ≡ Time) refl (λ u z. refl) (λ u. refl) refl)
+    (by_built (λ f. resolved_target f Date ≡ Date) refl (λ u z. refl) (λ u. refl) refl refl)
+    (λ u z. by_built (λ f. resolved_target f (Datetime u z) ≡ Datetime u z) refl (λ v y. refl) (λ v. refl) refl refl)
+    (λ u. by_built (λ f. resolved_target f (Duration u) ≡ Duration u) refl (λ v y. refl) (λ v. refl) refl refl)
+    (by_built (λ f. resolved_target f Time ≡ Time) refl (λ u z. refl) (λ u. refl) refl refl)
+    (by_built (λ f. resolved_target f Int64 ≡ Int64) refl (λ u z. refl) (λ u. refl) refl refl)
 
 built_target : (target : DataType) → is_built_cast target ≡ true → is_expression_target target ≡ true → is_built target ≡ true
 built_target target cast expression =
@@ -291,6 +292,7 @@ right_built =
     (λ u z op k rule dtype e f. keeps (Datetime u z) dtype (sym (ap (option_map (λ (r : OperatorRule). r.dtype)) e ∙ f)) refl)
     (λ u op k rule dtype e f. keeps (Duration u) dtype (sym (ap (option_map (λ (r : OperatorRule). r.dtype)) e ∙ f)) refl)
     (λ op k rule dtype e f. keeps Time dtype (sym (ap (option_map (λ (r : OperatorRule). r.dtype)) e ∙ f)) refl)
+    (λ op k rule dtype e f. keeps Int64 dtype (sym (ap (option_map (λ (r : OperatorRule). r.dtype)) e ∙ f)) refl)
 
 left_built : (from : DataType) → is_built from ≡ true → (k : ℤ) (op : BinOp) (rule : OperatorRule) (dtype : DataType) → scalar_left_rule k op from ≡ Some rule → Some rule.dtype ≡ Some dtype → is_built dtype ≡ true
 left_built =
@@ -299,6 +301,7 @@ left_built =
     (λ u z k op rule dtype e f. keeps (Datetime u z) dtype (sym (ap (option_map (λ (r : OperatorRule). r.dtype)) e ∙ f)) refl)
     (λ u k op rule dtype e f. keeps (Duration u) dtype (sym (ap (option_map (λ (r : OperatorRule). r.dtype)) e ∙ f)) refl)
     (λ k op rule dtype e f. keeps Time dtype (sym (ap (option_map (λ (r : OperatorRule). r.dtype)) e ∙ f)) refl)
+    (λ k op rule dtype e f. keeps Int64 dtype (sym (ap (option_map (λ (r : OperatorRule). r.dtype)) e ∙ f)) refl)
 
 pub slots_fit : (inputs : List Column) → All IsValidColumn inputs → (tree : Tree) → is_built_tree tree ≡ true → (dtype : DataType) → dtype_of inputs tree ≡ Some dtype → SlotsFit inputs tree dtype
 slots_fit inputs all (Input index) built dtype is = input_fits inputs all index dtype is

@@ -25,7 +25,7 @@ pub(crate) fn values_of(dtype: &DataType) -> Interval
     match dtype {
         DataType::Date => date_values(),
         DataType::Time => day_values(),
-        DataType::Datetime(_, _) | DataType::Duration(_) => tick_values(),
+        DataType::Datetime(_, _) | DataType::Duration(_) | DataType::Int64 => tick_values(),
         _ => unreachable!(),
     }
 }
@@ -38,7 +38,8 @@ pub(crate) fn fits_type(dtype: &DataType, range: Interval) -> bool
     match dtype {
         DataType::Date => date_values().encloses(range),
         DataType::Time => day_values().encloses(range),
-        DataType::Datetime(_, _) | DataType::Duration(_) => tick_values().encloses(range),
+        DataType::Datetime(_, _) | DataType::Duration(_) | DataType::Int64 =>
+            tick_values().encloses(range),
         _ => unreachable!(),
     }
 }
