@@ -11,8 +11,8 @@ use Rattle.col_types.specs.declared.data_type.DataType.{DataType, Time}
 use Rattle.col_types.specs.declared.error.PolarsError.{PolarsError}
 use Rattle.col_types.specs.declared.error.PolarsError.TheVariants as errors
 use Rattle.col_types.specs.declared.is_sorted.IsSorted.TheVariants.{Not}
-use Rattle.col_model.specs.Arithmetic.{Interval, WordType, Signed, fitting_value, is_within, word_values, wrapped_value}
-use Rattle.col_model.specs.Broadcast.{broadcast_length, column_slots}
+use Rattle.col_model.specs.Arithmetic.{WordType, Signed, fitting_value, is_within, word_values}
+use Rattle.col_model.specs.Broadcast.{broadcast_length}
 use Rattle.col_model.specs.Chunked.{Chunked, column_of}
 use Rattle.col_model.specs.Column.{Column, day_values, is_slot_of}
 use Rattle.col_model.specs.Formula.{Formula, X, Y, Difference, Fit, value_of}
