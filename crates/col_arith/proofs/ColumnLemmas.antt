@@ -25,8 +25,9 @@ use Rattle.col_kernel.specs.WordLaws.{wrapped-held}
 use Rattle.col_logical.specs.Logical.{lie_in_the_day, retyped}
 use Rattle.col_rule.specs.Columns.{mapped_chunks, mapped_column, paired_by, paired_column}
 use Rattle.col_arith.specs.declared.scalars.ScalarForm.{ScalarForm}
-use Rattle.col_arith.specs.declared.scalars.ScalarForm.TheVariants.{Right, Left}
+use Rattle.col_arith.specs.declared.scalars.ScalarForm.TheVariants.{Right, Left, Checked}
 use Rattle.col_arith.specs.declared.scalars.Ticks.{Ticks}
+use Rattle.col_arith.specs.Checked.{checked_form}
 use Rattle.col_arith.specs.Joined.{joined_by}
 use Rattle.col_arith.specs.ScalarForm.{FitsType, bounded_by, form_of, scalar_of, scalar_words, word_of}
 use Rattle.col_arith.proofs.PairLemmas.{equal_slots, slot_in-valid}
@@ -168,6 +169,8 @@ scalar-same column words form k ticks fits e = go form (is_within (word_values (
     go (Right op) false out = rw (fits.answer, fits.word) (rw fits.word (rw out refl))
     go (Left op) true inside = rw (fits.answer, fits.word) (rw fits.word (rw (inside, fits.bound (left_form k op (word_of ticks))) (ap answer (mapped_same (λ x. value_of (bounded_by ticks (left_form k op (word_of ticks))) x x)))))
     go (Left op) false out = rw (fits.answer, fits.word) (rw fits.word (rw out refl))
+    go Checked true inside = rw (fits.checked, fits.word) (rw fits.word (rw (inside, fits.bound (checked_form k (word_of ticks))) (ap answer (mapped_same (λ x. value_of (bounded_by ticks (checked_form k (word_of ticks))) x x)))))
+    go Checked false out = rw (fits.checked, fits.word) (rw fits.word (rw out refl))
 
 gives-retyped : (given : Result Chunked PolarsError) (dtype : DataType) (expected : Result Chunked PolarsError)
     → Gives given expected → GivesBy column_of (seen_by (retyped dtype) given) (seen_by (as_type dtype) (seen_by column_of expected))

@@ -3,8 +3,9 @@ use Rattle.std.specs.Prelude.{◌+ℤ◌, ◌-ℤ◌, ℤ, Option, Some, None, i
 use Rattle.col_types.specs.declared.data_type.DataType.{DataType}
 use Rattle.col_model.specs.OperatorTable.{OperatorRule}
 use Rattle.col_model.specs.ScalarTable.{scalar_right_rule, scalar_left_rule}
+use Rattle.col_arith.specs.Checked.{checked_num_rule}
 use Rattle.col_arith.specs.declared.scalars.ScalarForm.{ScalarForm}
-use Rattle.col_arith.specs.declared.scalars.ScalarForm.TheVariants.{Right, Left}
+use Rattle.col_arith.specs.declared.scalars.ScalarForm.TheVariants.{Right, Left, Checked}
 use Rattle.col_model.specs.Arithmetic.{Interval, is_inside}
 use Rattle.col_arith.specs.PairRule.{tick_values}
 use Rattle.col_arith.specs.declared.pair_rule.AddOrSub.{AddOrSub}
@@ -23,3 +24,4 @@ if_inside integers given = if is_inside tick_values integers then given else Non
 abbrev pub form_rule : ScalarForm → ℤ → DataType → Option OperatorRule
 form_rule (Right op) k dtype = scalar_right_rule dtype op k
 form_rule (Left op) k dtype = scalar_left_rule k op dtype
+form_rule Checked k dtype = checked_num_rule dtype k

@@ -1,5 +1,6 @@
 pub mod PairRule
 pub mod Joined
+pub mod Checked
 pub mod ScalarForm
 pub mod Coercion
 pub mod Laws

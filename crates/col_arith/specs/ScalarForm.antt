@@ -1,5 +1,5 @@
 -- The scalar forms as the code keeps them.
-use Rattle.std.specs.Prelude.{◌≡◌, ℤ, Some, Result, Ok, Err, if◌then◌else◌}
+use Rattle.std.specs.Prelude.{◌≡◌, ℤ, true, Some, Result, Ok, Err, if◌then◌else◌}
 use Rattle.std.specs.Int.{w32, w64}
 use Rattle.col_types.specs.declared.data_type.DataType.{DataType}
 use Rattle.col_types.specs.declared.error.PolarsError.{PolarsError}
@@ -12,8 +12,9 @@ use Rattle.col_model.specs.ScalarTable.{right_form, left_form, bounded, scalar_d
 use Rattle.col_model.specs.OperatorCalls.{scalar_right_of, scalar_left_of}
 use Rattle.col_model.specs.Words.{word_dtype}
 use Rattle.col_rule.specs.Columns.{mapped_chunks}
+use Rattle.col_arith.specs.Checked.{checked_form, checked_num_of, is_checked_type}
 use Rattle.col_arith.specs.declared.scalars.ScalarForm.{ScalarForm}
-use Rattle.col_arith.specs.declared.scalars.ScalarForm.TheVariants.{Right, Left}
+use Rattle.col_arith.specs.declared.scalars.ScalarForm.TheVariants.{Right, Left, Checked}
 use Rattle.col_arith.specs.declared.scalars.Ticks.{Ticks}
 use Rattle.col_arith.specs.declared.scalars.Ticks.TheVariants.{Days, Times, Wide}
 
@@ -21,11 +22,13 @@ use Rattle.col_arith.specs.declared.scalars.Ticks.TheVariants.{Days, Times, Wide
 abbrev pub form_of : ScalarForm → ℤ → WordType → Formula
 form_of (Right op) k word = right_form op k word
 form_of (Left op) k word = left_form k op word
+form_of Checked k word = checked_form k word
 
 -- what a column gives under a form with an integer
 abbrev pub scalar_of : Column → ScalarForm → ℤ → Result Column PolarsError
 scalar_of column (Right op) k = scalar_right_of column op k
 scalar_of column (Left op) k = scalar_left_of k op column
+scalar_of column Checked k = checked_num_of column k
 
 -- words under a formula with an integer, or that the word doesn't hold it
 abbrev pub scalar_words : WordType → Formula → ℤ → Chunked → Result Chunked PolarsError
@@ -60,3 +63,4 @@ pub record FitsType (dtype : DataType) (ticks : Ticks) : Type 0 where
   pub values : values_of dtype ≡ Some (values_in ticks)
   pub bound : (formula : Formula) → bounded dtype formula ≡ bounded_by ticks formula
   pub answer : scalar_dtype dtype ≡ Some dtype
+  pub checked : is_checked_type dtype ≡ true

@@ -5,10 +5,12 @@ ghost use Rattle.col_types.specs.declared.operator.ScalarOp.TheVariants as scala
 ghost use Rattle.col_model.specs.Chunked.{column_of};
 ghost use Rattle.col_model.specs.Column.{Column};
 ghost use Rattle.col_model.specs.OperatorCalls.{binary_of, scalar_right_of, scalar_left_of};
+ghost use Rattle.col_arith.specs.Checked.{checked_num_of, checked_of};
 ghost use Rattle.col_arith.specs.Coercion.{uncoerced_of};
 
+use crate::checked::checked_div;
 use crate::columns::{binary, uncoerced_binary};
-use crate::scalar::{scalar_left, scalar_right};
+use crate::scalar::{checked_div_num, scalar_left, scalar_right};
 use col_series::Series;
 use col_types::{BinOp, PolarsResult, ScalarOp};
 use std::alloc::Global;
@@ -115,6 +117,18 @@ pub trait SeriesArith: Drop {
         ensures answer { GivesBy column_of result
             (scalar_right_of (column self.now) scalar_ops.TruncDiv rhs) };
 
+    /// The quotient rounded towards zero, slot by slot, in the supertype; null by 0, and where the
+    /// type hasn't the quotient. Refused where the lengths differ (`Lengths`), then where the types
+    /// aren't two integers that have a supertype (`Types`).
+    fn checked_div(&self, alloc: Global, rhs: &Series) -> PolarsResult<Series>
+        ensures answer { GivesBy column_of result
+            (checked_of (column self.now) rhs.now.column) };
+
+    /// The quotient by an integer, rounded towards zero; null by 0, and where the type hasn't the
+    /// quotient.
+    fn checked_div_num(&self, alloc: Global, rhs: i128) -> PolarsResult<Series>
+        ensures answer { GivesBy column_of result (checked_num_of (column self.now) rhs) };
+
     /// The sum of an integer and the column.
     fn lhs_add(&self, alloc: Global, lhs: i128) -> PolarsResult<Series>
         ensures answer { GivesBy column_of result (scalar_left_of lhs Add (column self.now)) };
@@ -213,6 +227,14 @@ impl SeriesArith for Series {
 
     fn wrapping_trunc_div_scalar(&self, alloc: Global, rhs: i128) -> PolarsResult<Series> {
         scalar_right(alloc, self, ScalarOp::TruncDiv, rhs)
+    }
+
+    fn checked_div(&self, alloc: Global, rhs: &Series) -> PolarsResult<Series> {
+        checked_div(alloc, self, rhs)
+    }
+
+    fn checked_div_num(&self, alloc: Global, rhs: i128) -> PolarsResult<Series> {
+        checked_div_num(alloc, self, rhs)
     }
 
     fn lhs_add(&self, alloc: Global, lhs: i128) -> PolarsResult<Series> {

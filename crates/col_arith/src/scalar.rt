@@ -9,6 +9,7 @@ ghost use Rattle.col_model.specs.Column.{day_values, is_built_type};
 ghost use Rattle.col_model.specs.Formula.{Fit};
 ghost use Rattle.col_model.specs.OperatorCalls.{scalar_right_of, scalar_left_of};
 ghost use Rattle.col_arith.specs.declared.scalars.Ticks.TheVariants.{Wide};
+ghost use Rattle.col_arith.specs.Checked.{checked_num_of};
 ghost use Rattle.col_arith.specs.Joined.{HasNoBound};
 ghost use Rattle.col_arith.specs.ScalarForm.{FitsType, form_of, scalar_of, scalar_words};
 
@@ -34,6 +35,14 @@ pub fn scalar_left(alloc: Global, lhs: i128, op: BinOp, column: &Series) -> Pola
     ensures column { GivesBy column_of result (scalar_left_of lhs op column.now.column) }
 {
     scalar(alloc, column, ScalarForm::Left(op), lhs)
+}
+
+/// The column divided by an integer towards zero, in the column's type; null by 0, and where the
+/// type hasn't the quotient. Refused as `scalar_right`.
+pub fn checked_div_num(alloc: Global, column: &Series, k: i128) -> PolarsResult<Series>
+    ensures column { GivesBy column_of result (checked_num_of column.now.column k) }
+{
+    scalar(alloc, column, ScalarForm::Checked, k)
 }
 
 /// The column with an integer under the form. Each type of which columns exist meets integers.

@@ -78,6 +78,7 @@ fn form_interval(form: ScalarForm, ticks: Ticks, p: Interval, k: i128) -> Option
     let joined = match form {
         ScalarForm::Right(op) => right_interval(op, ticks, p, k),
         ScalarForm::Left(op) => left_interval(op, ticks, p, k),
+        ScalarForm::Checked => right_interval(ScalarOp::TruncDiv, ticks, p, k),
     };
     match ticks {
         Ticks::Times => inside_of(day_values(), joined),

@@ -18,6 +18,8 @@ use col_types::{BinOp, DataType, NANOS_PER_DAY, ScalarOp};
 pub(crate) enum ScalarForm {
     Right(ScalarOp),
     Left(BinOp),
+    /// The value divided by the integer towards zero, null where its type hasn't the quotient.
+    Checked,
 }
 
 /// The ticks of a type: in which word they are, and which bound they have in it.
@@ -101,6 +103,7 @@ fn form_value<W: Word>(form: ScalarForm, value: W, k: W) -> Option<W>
             BinOp::Div => k.floor_div(value),
             BinOp::Rem => k.floor_mod(value),
         },
+        ScalarForm::Checked => value.div_checked(k),
     }
 }
 

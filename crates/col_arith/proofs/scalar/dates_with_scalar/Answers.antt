@@ -11,5 +11,5 @@ returns c =
     let words = rw (to_z-of_z w128 _ c.ranges.k) at c.with_scalar.ensures.column in
     record {
       column = scalar-answer c.args.column.now c.int32.result.now Date c.args.form c.args.k Days _ _ c.requires.date
-          (record { word = refl; values = refl; bound = λ formula. refl; answer = refl }) c.int32.ensures.column words c.read_dates.ensures.column;
+          (record { word = refl; values = refl; bound = λ formula. refl; answer = refl; checked = refl }) c.int32.ensures.column words c.read_dates.ensures.column;
     }

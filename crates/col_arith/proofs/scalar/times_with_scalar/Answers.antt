@@ -13,7 +13,7 @@ returns c =
     let words = rw (to_z-of_z w128 _ c.ranges.k) at c.times_of_scalar-words.ensures.column in
     record {
       column = scalar-answer c.args.column.now c.int64.result.now Time c.args.form c.args.k Times _ _ c.requires.time
-          (record { word = refl; values = refl; bound = λ formula. refl; answer = refl }) c.int64.ensures.column words c.read_ticks.ensures.column;
+          (record { word = refl; values = refl; bound = λ formula. refl; answer = refl; checked = refl }) c.int64.ensures.column words c.read_ticks.ensures.column;
     }
 
 pub read_ticks-requires-clause-day : goal.read_ticks-requires-clause-day
