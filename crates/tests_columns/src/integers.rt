@@ -54,6 +54,31 @@ fn integers_meet_integers(rt: HostRuntime) {
 }
 
 #[test]
+fn quotients_are_checked(rt: HostRuntime) {
+    let alloc = rt.alloc();
+    let left = integers(&rt, alloc, &[i64::MIN, -7, 7]);
+    let right = integers(&rt, alloc, &[-1, 2, 0]);
+    let quotients = [None, Some(-3), None];
+    gives(&rt, left.checked_div(alloc, &right), &quotients);
+    let halves = [Some(-4_611_686_018_427_387_904), Some(-3), Some(3)];
+    gives(&rt, left.checked_div_num(alloc, 2), &halves);
+    let two = integers(&rt, alloc, &[1, 2]);
+    let answer = two.checked_div(alloc, &left);
+    let refused = matches!(&answer, Err(PolarsError::Lengths { left: 2, right: 3 }));
+    holds(&rt, "lengths", refused);
+}
+
+#[test]
+fn times_are_divided(rt: HostRuntime) {
+    let alloc = rt.alloc();
+    let name = PlSmallStr::from_str(alloc, "at").expect(&rt, "a name");
+    let times = Series::from_slots(alloc, name, &DataType::Time, &[Some(10)]);
+    let thirds = times.expect(&rt, "times").checked_div_num(alloc, 3);
+    let thirds = thirds.expect(&rt, "times");
+    holds(&rt, "time", matches!(thirds.get(0), Ok(AnyValue::Time(3))));
+}
+
+#[test]
 fn integers_meet_a_number(rt: HostRuntime) {
     let alloc = rt.alloc();
     let column = integers(&rt, alloc, &[i64::MAX, -7]);
