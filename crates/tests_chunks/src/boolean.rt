@@ -74,12 +74,14 @@ fn one_row_for_all(rt: HostRuntime) {
 }
 
 /// From an offset on the rows are those of the whole column.
-fn is_cut_at(rt: &impl Abort, alloc: Global, offset: usize) {
+fn is_cut_at(rt: &impl Abort, alloc: Global, offset: u32) {
     let column = thirds(rt, alloc, 200);
-    let part = column.slice(alloc, offset as i64, 100).expect(rt, "a part");
+    let part = column
+        .slice(alloc, i64::from(offset), 100)
+        .expect(rt, "a part");
     let mut alike = part.len() == 100 && part.null_count() == 0;
     for row in 0..part.len() {
-        let third = offset.wrapping_add(row) % 3 == 0;
+        let third = (offset as usize).wrapping_add(row) % 3 == 0;
         alike = alike && part.get(row) == Some(third);
     }
     holds(rt, "other rows", alike);
